@@ -1,0 +1,4 @@
+pub mod Finite
+pub mod Classes
+pub mod Trees
+pub mod Unifiers
