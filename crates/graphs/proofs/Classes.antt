@@ -3,15 +3,14 @@
 -- In order: an address has a node or nothing; `Same` is closed, and the smallest closed equivalence; a labelling that agrees
 -- on the pairs and place by place agrees on `Same`; both sides of `Same` are nodes; more pairs; names are unique; the class
 -- table, row against partition. Assumes nothing.
-use mathlib.Core.Path.{_≡_, refl, sym, ap, _∙_, subst}
+use mathlib.Core.Path.{_≡_, refl, sym, _∙_, subst}
 use mathlib.Core.Logic.{_⊎_, inl, inr, ⊎-elim}
-use mathlib.Core.List.{List, [], _∷_}
+use mathlib.Core.List.{List, [], _∷_, List·Memᴰ·head, List·Memᴰ·tail, List·Memᴰ·not-nil, List·Memᴰ·cases-cons}
 use Prim.Native.Nat.{ℕ, zero, suc, _≤_, _<_}
-use native.Mathlib.Decide.{decLt}
 use native.Mathlib.Omega.{arith}
-use lib.ListN.{length, getD, List·getD-eq-default}
+use lib.ListN.{length, getD, take}
 use lib.Seq.{ext-getD}
-use Rattle.graphs.specs.Graph.{Symbols, Head, nothing, variable, symbol, Graph, Node, variable-node, symbol-node, ChildAt, Child, Steps, WellFormed}
+use Rattle.graphs.specs.Graph.{Symbols, Head, nothing, variable, symbol, Graph, Node, variable-node, symbol-node, Child, WellFormed}
 use Rattle.graphs.specs.Partition.{Pair, _∈_, Sides, Same, itself, swapped, through, paired, placed, Closed, Clash, ClassStep, Cycle, VariablesOnly, Named, by-non-variable, by-variable, entry, ClassTable}
 use Rattle.graphs.proofs.Finite.{steps-map}
 
@@ -118,6 +117,13 @@ class-step-grows sub x y c =
 
 pub cycle-grows : {S : Symbols} {G : Graph S} {few many : List Pair} → ((p : Pair) → p ∈ few → p ∈ many) → Cycle G few → Cycle G many
 cycle-grows sub c = (c .0, steps-map (class-step-grows sub) (c .1))
+
+pub first-pairs-grow : (j k : ℕ) (pairs : List Pair) → j ≤ k → (p : Pair) → p ∈ take j pairs → p ∈ take k pairs
+first-pairs-grow zero k pairs h p m = absurd (List·Memᴰ·not-nil m)
+first-pairs-grow (suc j) zero pairs h p m = absurd (omega arith)
+first-pairs-grow (suc j) (suc k) [] h p m = m
+first-pairs-grow (suc j) (suc k) (q ∷ pairs) h p m =
+    ⊎-elim (λ e. List·Memᴰ·head e) (λ r. List·Memᴰ·tail (first-pairs-grow j k pairs (omega arith) p r)) (List·Memᴰ·cases-cons m)
 
 -- ---- names
 

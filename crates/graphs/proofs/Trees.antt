@@ -3,7 +3,7 @@
 -- In order: lists of terms (`each-agrees`, `each-apply`, `each-agreed`); the size of a term; a tree of enough depth unfolds
 -- (`tree-unfolds`); the term below a node (`below-unfolds`, and under a replacement `apply-below-variable`, `-symbol`).
 -- After `below-unfolds` nothing here or above mentions depth. Assumes nothing.
-use mathlib.Core.Path.{_≡_, refl, sym, ap, _∙_, subst}
+use mathlib.Core.Path.{_≡_, refl, ap, _∙_}
 use mathlib.Core.List.{List, [], _∷_}
 use Prim.Native.Nat.{ℕ, zero, suc, _+_, _≤_, _<_}
 use native.Mathlib.Omega.{arith}

@@ -5,17 +5,17 @@
 -- answer unfolds (`answer-unfolds`) and is the resolved term of each node (`resolved`); so it unifies, follows the rule, is
 -- the only one that does, and is most general. Assumes nothing.
 use mathlib.Core.Path.{_≡_, refl, sym, ap, _∙_, subst}
-use mathlib.Core.Logic.{_⊎_, inl, inr, ⊎-elim}
-use mathlib.Core.List.{List, [], _∷_}
-use Prim.Native.Nat.{ℕ, zero, suc, _+_, _≤_, _<_}
+use mathlib.Core.Logic.{⊎-elim}
+use mathlib.Core.List.{List}
+use Prim.Native.Nat.{ℕ, _<_}
 use native.Mathlib.Omega.{arith}
-use lib.ListN.{length, getD}
-use Rattle.graphs.specs.Graph.{Symbols, Head, nothing, variable, symbol, Graph, Node, variable-node, symbol-node, Child, Steps, one, more, WellFormed}
-use Rattle.graphs.specs.Partition.{Pair, _∈_, Sides, Same, itself, swapped, through, paired, placed, Clash, ClassStep, Cycle, VariablesOnly, Named, by-non-variable, by-variable, entry, ClassTable}
-use Rattle.graphs.specs.Term.{Term, var, app, Replacement, apply, each, grown, tree, below, Unifies, FollowsRule, answer}
-use Rattle.graphs.proofs.Finite.{Short, short-of-no-return, short-induction, steps-map}
-use Rattle.graphs.proofs.Classes.{node-or-nothing, nothing-no-node, never, child-at, same-labels, same-nodes, named-same, together-one-entry, entry-together, name-node, name-of-name}
-use Rattle.graphs.proofs.Trees.{each-agrees, each-agreed, each-apply, size, sizes, part-smaller, tree-unfolds, below-unfolds, apply-below-variable, apply-below-symbol}
+use lib.ListN.{getD}
+use Rattle.graphs.specs.Graph.{Symbols, variable, symbol, Graph, Node, variable-node, symbol-node, Child, Steps, one, more, WellFormed}
+use Rattle.graphs.specs.Partition.{Pair, Sides, Same, itself, paired, placed, Clash, ClassStep, Cycle, Named, by-non-variable, by-variable, entry, ClassTable}
+use Rattle.graphs.specs.Term.{Term, var, app, Replacement, apply, each, grown, below, Unifies, FollowsRule, answer}
+use Rattle.graphs.proofs.Finite.{short-of-no-return, short-induction, steps-map}
+use Rattle.graphs.proofs.Classes.{node-or-nothing, never, child-at, same-labels, same-nodes, together-one-entry, entry-together, name-node}
+use Rattle.graphs.proofs.Trees.{each-agrees, each-agreed, each-apply, size, part-smaller, tree-unfolds, apply-below-variable, apply-below-symbol}
 
 -- ---- what a unifier shows
 

@@ -2,3 +2,4 @@
 pub mod Graph
 pub mod Partition
 pub mod Term
+pub mod Log

@@ -1,7 +1,7 @@
 -- The partition that a list of pairs makes: classes, clash, cycle, names, the class table and the joins.
 -- The sentences quoted are document 01's. Assumes nothing.
 use mathlib.Core.Path.{_≡_}
-use mathlib.Core.Bool.{Bool, true, false}
+use mathlib.Core.Bool.{Bool, true, false, _&&_}
 use mathlib.Core.List.{List, List·Memᴰ}
 use Prim.Native.Nat.{ℕ, zero, suc, _+_, _-_, _≤_, _<_}
 use lib.Dec.{eqb}
@@ -95,10 +95,6 @@ unfoldable pub bit : Bool → ℕ
 bit true = 1
 bit false = 0
 
-unfoldable pub and : Bool → Bool → Bool
-and true b = b
-and false b = false
-
 -- how many addresses below n pass a test
 unfoldable pub count : (ℕ → Bool) → ℕ → ℕ
 count test zero = 0
@@ -110,7 +106,7 @@ nodes G = count (λ x. isNode (G .head x)) (G .size)
 -- Each class has one name, which is one of its nodes (`name-of-name`, proofs/Theorems.antt): so there are as many classes as
 -- nodes that are their own entry.
 unfoldable pub classes : {S : Symbols} → Graph S → List ℕ → ℕ
-classes G table = count (λ x. and (isNode (G .head x)) (eqb (entry table x) x)) (G .size)
+classes G table = count (λ x. isNode (G .head x) && eqb (entry table x) x) (G .size)
 
 -- "The joins are the number of nodes less the number of classes."
 unfoldable pub joins : {S : Symbols} → Graph S → List ℕ → ℕ
