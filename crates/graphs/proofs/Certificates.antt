@@ -79,19 +79,19 @@ module _ {S : Symbols} {G : Graph S} {pairs : List Pair} (wf : WellFormed G) (si
     one-name =
         same-labels {G = G} (entry row) (holds-pairs row (both-true shut .0))
         (λ x y s xs ys e ex ey i hx hy.
-          let nx : (zs : List ℕ) × (G .head (entry row x) ≡ symbol s zs) × (sameNames row xs zs ≡ true) = as-name ex in
-          let ny : (zs : List ℕ) × (G .head (entry row y) ≡ symbol s zs) × (sameNames row ys zs ≡ true) = as-name ey in
-          let heads : G .head (entry row x) ≡ G .head (entry row y) = ap (G .head) e in
-          let children : nx .0 ≡ ny .0 = cc in
-          same-names row xs (nx .0) (nx .2) i hx ∙ ap (λ (zs : List ℕ). entry row (getD zs i 0)) children ∙ sym (same-names row ys (ny .0) (ny .2) i hy))
+        let nx : (zs : List ℕ) × (G .head (entry row x) ≡ symbol s zs) × (sameNames row xs zs ≡ true) = as-name ex in
+        let ny : (zs : List ℕ) × (G .head (entry row y) ≡ symbol s zs) × (sameNames row ys zs ≡ true) = as-name ey in
+        let heads : G .head (entry row x) ≡ G .head (entry row y) = ap (G .head) e in
+        let children : nx .0 ≡ ny .0 = cc in
+        same-names row xs (nx .0) (nx .2) i hx ∙ ap (λ (zs : List ℕ). entry row (getD zs i 0)) children ∙ sym (same-names row ys (ny .0) (ny .2) i hy))
 
     pub closed-class-table : ClassTable G pairs row
     closed-class-table =
-        record
-          { long = sound .long
-          ; named = λ x n. first-names (sound .with-entry x n) (λ y s. omega (arith, ap (key G) (one-name s), sound .first y (same-nodes wf sides s .1)))
-          ; empty = sound .empty
-          }
+        record {
+          long = sound .long;
+          named = λ x n. first-names (sound .with-entry x n) (λ y s. omega (arith, ap (key G) (one-name s), sound .first y (same-nodes wf sides s .1)));
+          empty = sound .empty;
+        }
 
     pub closed-no-clash : Clash G pairs → ⊥
     closed-no-clash c =
@@ -138,18 +138,18 @@ module _ {S : Symbols} {G : Graph S} {pairs : List Pair} (wf : WellFormed G) (si
         right s xs ex nothing ey t = never (cc)
         right s xs ex variable ey t = never (cc)
         right s xs ex (symbol s′ ys) ey t =
-            record
-              { left = x
-              ; right = y
-              ; together = together-same wf sides sound (both-true e .0)
-              ; left-symbol = s
-              ; left-children = xs
-              ; right-symbol = s′
-              ; right-children = ys
-              ; left-head = ex
-              ; right-head = ey
-              ; different = decide-not (S .decide s s′) t
-              }
+            record {
+              left = x;
+              right = y;
+              together = together-same wf sides sound (both-true e .0);
+              left-symbol = s;
+              left-children = xs;
+              right-symbol = s′;
+              right-children = ys;
+              left-head = ex;
+              right-head = ey;
+              different = decide-not (S .decide s s′) t;
+            }
 
         left : (h : Head S) → G .head x ≡ h → differ h (G .head y) ≡ true → Clash G pairs
         left nothing ex t = never (cc)
@@ -183,23 +183,23 @@ module _ {S : Symbols} {G : Graph S} {pairs : List Pair} (wf : WellFormed G) (si
     unfolding leads
     leads-steps [] {x} {y} {last} down n e =
         one
-        (record
-          { member = x
-          ; child = y
-          ; from = itself (parent-node down)
-          ; down = down
-          ; into = one-entry-same wf sides sound (wf .child-node x y down) n (eqb-true (entry row y) (entry row last) e)
-          })
+        (record {
+          member = x;
+          child = y;
+          from = itself (parent-node down);
+          down = down;
+          into = one-entry-same wf sides sound (wf .child-node x y down) n (eqb-true (entry row y) (entry row last) e);
+        })
     leads-steps (d ∷ ways) {x} {y} {last} down n e =
         let next : Child G (d .parent) (d .child) = below-child (d .parent) (d .child) (both-true (both-true e .1) .0) in
         more
-        (record
-          { member = x
-          ; child = y
-          ; from = itself (parent-node down)
-          ; down = down
-          ; into = one-entry-same wf sides sound (wf .child-node x y down) (parent-node next) (eqb-true (entry row y) (entry row (d .parent)) (both-true e .0))
-          })
+        (record {
+          member = x;
+          child = y;
+          from = itself (parent-node down);
+          down = down;
+          into = one-entry-same wf sides sound (wf .child-node x y down) (parent-node next) (eqb-true (entry row y) (entry row (d .parent)) (both-true e .0));
+        })
         (leads-steps ways next n (both-true (both-true e .1) .1))
 
     pub cycles-cycle : (ways : List Down) → cycles G row ways ≡ true → Cycle G pairs

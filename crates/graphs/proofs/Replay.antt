@@ -126,12 +126,12 @@ module _ {S : Symbols} (G : Graph S) where
   pub apart-sound : WellFormed G → (pairs : List Pair) → Sound G pairs (apart G)
   unfolding apart
   apart-sound wf pairs =
-      record
-        { long = apart-length 0 (G .size)
-        ; with-entry = λ x n. subst (λ (r : ℕ). Same G pairs x r) (sym (apart-own wf x n)) (itself n)
-        ; first = λ x n. omega (arith, ap (key G) (apart-own wf x n))
-        ; empty = apart-empty
-        }
+      record {
+        long = apart-length 0 (G .size);
+        with-entry = λ x n. subst (λ (r : ℕ). Same G pairs x r) (sym (apart-own wf x n)) (itself n);
+        first = λ x n. omega (arith, ap (key G) (apart-own wf x n));
+        empty = apart-empty;
+      }
 
 module _ {S : Symbols} {G : Graph S} {pairs : List Pair} (wf : WellFormed G) (sides : Sides G pairs) where
   not-zero : {x : ℕ} → Node G x → x ≡ 0 → ⊥
@@ -155,12 +155,12 @@ module _ {S : Symbols} {G : Graph S} {pairs : List Pair} (wf : WellFormed G) (si
 
   renamed-sound : {row : List ℕ} → Sound G pairs row → (old new : ℕ) → Node G old → Same G pairs old new → key G new ≤ key G old → Sound G pairs (renamed old new row)
   renamed-sound {row} sound old new n same low =
-      record
-        { long = unfold renamed in (length-map row (λ e. cond (eqb e old) new e) ∙ sound .long)
-        ; with-entry = λ x m. subst (λ (r : ℕ). Same G pairs x r) (sym (at x)) (with-new x m (eqb (entry row x) old) refl)
-        ; first = λ x m. subst (λ (r : ℕ). key G r ≤ key G x) (sym (at x)) (first-new x m (eqb (entry row x) old) refl)
-        ; empty = λ x e. at x ∙ empty-new x e
-        }
+      record {
+        long = unfold renamed in (length-map row (λ e. cond (eqb e old) new e) ∙ sound .long);
+        with-entry = λ x m. subst (λ (r : ℕ). Same G pairs x r) (sym (at x)) (with-new x m (eqb (entry row x) old) refl);
+        first = λ x m. subst (λ (r : ℕ). key G r ≤ key G x) (sym (at x)) (first-new x m (eqb (entry row x) old) refl);
+        empty = λ x e. at x ∙ empty-new x e;
+      }
     where
       at : (x : ℕ) → entry (renamed old new row) x ≡ cond (eqb (entry row x) old) new (entry row x)
       at = renamed-entry old new row (not-zero n)

@@ -13,7 +13,6 @@ use Rattle.graphs.specs.Partition.{Pair, isNode, entry}
 
 infixr 30 _and_
 infixr 25 _or_
-
 unfoldable pub _and_ : Bool → Bool → Bool
 true and b = b
 false and b = false

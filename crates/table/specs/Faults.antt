@@ -1,0 +1,155 @@
+-- Document 01's table of numbers, "Numbers returned": the rows 1 to 11, with the words of each beside its constructor.
+-- Assumes nothing.
+use mathlib.Core.Path.{_≡_}
+use mathlib.Core.Bool.{Bool, true, false, _&&_, _||_, not}
+use mathlib.Core.Logic.{_⊎_}
+use mathlib.Core.List.{List, [], _∷_}
+use mathlib.Core.Option.{some}
+use Prim.Native.Nat.{ℕ, zero, suc, _+_, _*_, _%_, _≤_, _<_}
+use lib.Dec.{eqb, leb, ltb}
+use lib.ListN.{length, getD, take, drop}
+use Rattle.words.specs.declared.kind.Kind.{Kind}
+use Rattle.words.specs.declared.kind.Kind.the-variants.{Variable, Constant, Function, Pointer, Count, NoWord}
+use Rattle.graphs.specs.Graph.{Child, Steps}
+use Rattle.graphs.specs.Partition.{Pair, Clash, Cycle}
+use Rattle.table.specs.Table.{wordAt, kindAt, contentAt, nodeKind, graphOf}
+use Rattle.table.specs.Layout.{item, breakFrom}
+use Rattle.table.specs.Answers.{Lowest}
+
+-- What a match is sent: a table, a list, and how many entries the class and the work buffer have.
+pub record Job : Type 0 where
+  pub table : List ℕ
+  pub list : List ℕ
+  pub class-room : ℕ
+  pub work-room : ℕ
+
+-- ---- one word
+
+unfoldable pub badKind : Kind → ℕ → Bool
+badKind Variable content = false
+badKind Constant content = false
+badKind Function content = false
+badKind Pointer content = false
+badKind Count content = eqb content 0 || ltb 255 content
+badKind NoWord content = true
+
+unfoldable pub badLater : ℕ → List ℕ → Bool
+badLater zero t = not (eqb (wordAt t 0) 0)
+badLater (suc a) t = badKind (kindAt t (suc a)) (contentAt t (suc a))
+
+-- "word 0 is not 0; a later tag is not in the table; a high bit is set; a count is 0 or over 255"
+abbrev pub badWord : List ℕ → ℕ → Bool
+badWord t a = badLater a t
+
+unfoldable pub pointerOrCount : Kind → Bool
+pointerOrCount Variable = false
+pointerOrCount Constant = false
+pointerOrCount Function = false
+pointerOrCount Pointer = true
+pointerOrCount Count = true
+pointerOrCount NoWord = false
+
+unfoldable pub badTarget : Kind → ℕ → List ℕ → Bool
+badTarget Variable b t = false
+badTarget Constant b t = false
+badTarget Function b t = false
+badTarget Pointer b t = eqb b 0 || (leb (length t) b || pointerOrCount (kindAt t b))
+badTarget Count b t = false
+badTarget NoWord b t = false
+
+-- a pointer that "names 0, an address of n or more, a pointer or a count"
+abbrev pub badPointer : List ℕ → ℕ → Bool
+badPointer t a = badTarget (kindAt t a) (contentAt t a) t
+
+-- "a variable's label stood earlier"
+pub record Repeats (t : List ℕ) (a : ℕ) : Type 0 where
+  pub later : kindAt t a ≡ Variable
+  pub earlier : ℕ
+  pub before : earlier < a
+  pub variable-there : kindAt t earlier ≡ Variable
+  pub same-label : contentAt t earlier ≡ contentAt t a
+
+-- ---- the list
+
+-- "left, right, left, right"; an entry that has no partner is dropped, which only a refused list has
+unfoldable pub pairsOf : List ℕ → List Pair
+pairsOf [] = []
+pairsOf (l ∷ []) = []
+pairsOf (l ∷ r ∷ rest) = record { left = l; right = r } ∷ pairsOf rest
+
+-- the number of entries is odd
+unfoldable pub odd : List ℕ → Bool
+odd [] = false
+odd (l ∷ []) = true
+odd (l ∷ r ∷ rest) = odd rest
+
+-- "a side is not the address of a node"
+abbrev pub badSides : List ℕ → Pair → Bool
+badSides t p = not (nodeKind (kindAt t (p .left)) && nodeKind (kindAt t (p .right)))
+
+-- the pair at place i, from 0
+abbrev pub pairAt : List Pair → ℕ → Pair
+pairAt pairs i = getD pairs i (record { left = 0; right = 0 })
+
+-- ---- the table of numbers
+
+pub data Row : Type 0 where
+  SIZE ROOM WORD LAYOUT POINTER NAME LOOP LIST ADDRESS CLASH CYCLE : Row
+
+unfoldable pub number : Row → ℕ
+number SIZE = 1
+number ROOM = 2
+number WORD = 3
+number LAYOUT = 4
+number POINTER = 5
+number NAME = 6
+number LOOP = 7
+number LIST = 8
+number ADDRESS = 9
+number CLASH = 10
+number CYCLE = 11
+
+-- A row applies to a job, at a place. "Pairs are numbered from 1": the pair at place i of the list has number i + 1, and the
+-- pairs before it are `take i`.
+pub data Fault (job : Job) : Row → ℕ → Type 0 where
+  -- "n is 0 or over 4,096"
+  size-fault : (length (job .table) ≡ 0) ⊎ (4096 < length (job .table)) → Fault job SIZE 0
+  -- "class buffer under n entries, or work buffer under 4n"
+  room-fault : (job .class-room < length (job .table)) ⊎ (job .work-room < 4 * length (job .table)) → Fault job ROOM 0
+  -- "lowest such address"
+  word-fault : {a : ℕ} → Lowest (λ b. (b < length (job .table)) × (badWord (job .table) b ≡ true)) a → Fault job WORD a
+  -- "the row of items breaks"; it begins at address 1
+  layout-fault : {a : ℕ} → breakFrom item 1 (drop 1 (job .table)) ≡ some a → Fault job LAYOUT a
+  -- "lowest such pointer"
+  pointer-fault : {a : ℕ} → Lowest (λ b. (b < length (job .table)) × (badPointer (job .table) b ≡ true)) a → Fault job POINTER a
+  -- "lowest such later address"
+  name-fault : {a : ℕ} → Lowest (Repeats (job .table)) a → Fault job NAME a
+  -- "some node reaches itself"
+  loop-fault : (x : ℕ) → Steps (Child (graphOf (job .table))) x x → Fault job LOOP 0
+  -- "odd number of entries, or over 512"
+  list-fault : (odd (job .list) ≡ true) ⊎ (512 < length (job .list)) → Fault job LIST 0
+  -- "lowest such pair number"
+  address-fault : {i : ℕ}
+      → Lowest (λ k. (k < length (pairsOf (job .list))) × (badSides (job .table) (pairAt (pairsOf (job .list)) k) ≡ true)) i
+      → Fault job ADDRESS (i + 1)
+  -- "first k pairs have a clash, first k-1 have neither clash nor cycle"
+  clash-fault : {i : ℕ} → i < length (pairsOf (job .list))
+      → Clash (graphOf (job .table)) (take (i + 1) (pairsOf (job .list)))
+      → (Clash (graphOf (job .table)) (take i (pairsOf (job .list))) → ⊥)
+      → (Cycle (graphOf (job .table)) (take i (pairsOf (job .list))) → ⊥)
+      → Fault job CLASH (i + 1)
+  -- "first k pairs have a cycle and no clash, first k-1 have neither"
+  cycle-fault : {i : ℕ} → i < length (pairsOf (job .list))
+      → Cycle (graphOf (job .table)) (take (i + 1) (pairsOf (job .list)))
+      → (Clash (graphOf (job .table)) (take (i + 1) (pairsOf (job .list))) → ⊥)
+      → (Clash (graphOf (job .table)) (take i (pairsOf (job .list))) → ⊥)
+      → (Cycle (graphOf (job .table)) (take i (pairsOf (job .list))) → ⊥)
+      → Fault job CYCLE (i + 1)
+
+-- "The table check by itself .. gives 0 to 7 by the same rules"
+abbrev pub checkOrder : List Row
+checkOrder = SIZE ∷ ROOM ∷ WORD ∷ LAYOUT ∷ POINTER ∷ NAME ∷ LOOP ∷ []
+
+-- "The lowest number that applies is given"
+abbrev pub matchOrder : List Row
+matchOrder = SIZE ∷ ROOM ∷ WORD ∷ LAYOUT ∷ POINTER ∷ NAME ∷ LOOP ∷ LIST ∷ ADDRESS ∷ CLASH ∷ CYCLE ∷ []

@@ -1,0 +1,114 @@
+-- From a row of words to its term graph. The sentences quoted are document 01's, "The word and the table". Assumes nothing.
+use mathlib.Core.Path.{_≡_, ap}
+use mathlib.Core.Bool.{Bool, true, false}
+use mathlib.Core.List.{List, [], _∷_}
+use Prim.Native.Nat.{ℕ, zero, suc, _+_, _<_}
+use native.Mathlib.Decide.{ℕ-discrete}
+use lib.ListN.{length, getD}
+use Rattle.words.specs.Word.{kindOf, contentOf}
+use Rattle.words.specs.declared.kind.Kind.{Kind}
+use Rattle.words.specs.declared.kind.Kind.the-variants.{Variable, Constant, Function, Pointer, Count, NoWord}
+use Rattle.words.specs.declared.head.Symbol.{Symbol}
+use Rattle.graphs.specs.Graph.{Symbols, Head, nothing, variable, symbol, Graph}
+
+-- the first where the test passes, and the second where it fails
+unfoldable pub choose : {A : Type 0} → Bool → A → A → A
+choose true a b = a
+choose false a b = b
+
+-- the word at an address; past the end 0, which is no word
+abbrev pub wordAt : List ℕ → ℕ → ℕ
+wordAt t a = getD t a 0
+
+abbrev pub kindAt : List ℕ → ℕ → Kind
+kindAt t a = kindOf (wordAt t a)
+
+abbrev pub contentAt : List ℕ → ℕ → ℕ
+contentAt t a = contentOf (wordAt t a)
+
+-- ---- nodes
+
+-- A variable, constant or function word: "Those three kinds of word are the nodes."
+abbrev pub nodeKind : Kind → Bool
+nodeKind Variable = true
+nodeKind Constant = true
+nodeKind Function = true
+nodeKind Pointer = false
+nodeKind Count = false
+nodeKind NoWord = false
+
+abbrev pub functionKind : Kind → Bool
+functionKind Variable = false
+functionKind Constant = false
+functionKind Function = true
+functionKind Pointer = false
+functionKind Count = false
+functionKind NoWord = false
+
+abbrev pub pointerKind : Kind → Bool
+pointerKind Variable = false
+pointerKind Constant = false
+pointerKind Function = false
+pointerKind Pointer = true
+pointerKind Count = false
+pointerKind NoWord = false
+
+-- ---- symbols
+
+-- "A symbol is a label with its argument count; a constant counts 0."
+abbrev pub symbolWith : ℕ → ℕ → Symbol
+symbolWith label count = record { label = record { 0 = label }; count = count }
+
+unfoldable pub symbol-decide : Discrete Symbol
+symbol-decide s t = go (ℕ-discrete (s .label .0) (t .label .0)) (ℕ-discrete (s .count) (t .count))
+  where
+    go : Dec (s .label .0 ≡ t .label .0) → Dec (s .count ≡ t .count) → Dec (s ≡ t)
+    go (yes p) (yes q) = yes (λ i. record { label = record { 0 = p i }; count = q i })
+    go (yes p) (no q) = no (λ e. q (ap (λ (u : Symbol). u .count) e))
+    go (no p) d = no (λ e. p (ap (λ (u : Symbol). u .label .0) e))
+
+abbrev pub TableSymbols : Symbols
+TableSymbols = record { Symbol = Symbol; decide = symbol-decide; count = λ s. s .count }
+
+-- ---- children
+
+-- The node that the argument word at a names: the word itself, or the one that a pointer names.
+unfoldable pub named : List ℕ → ℕ → ℕ
+named t a = choose (pointerKind (kindAt t a)) (contentAt t a) a
+
+unfoldable pub namedFrom : List ℕ → ℕ → ℕ → List ℕ
+namedFrom t a zero = []
+namedFrom t a (suc k) = named t a ∷ namedFrom t (a + 1) k
+
+-- "A block is a function word, a count word k, then k argument words". "The i-th child of a function is its i-th argument
+-- word, or the node that this names."
+abbrev pub childrenAt : List ℕ → ℕ → List ℕ
+childrenAt t f = namedFrom t (f + 2) (contentAt t (f + 1))
+
+-- ---- the graph
+
+unfoldable pub headOf : Kind → List ℕ → ℕ → Head TableSymbols
+headOf Variable t x = variable
+headOf Constant t x = symbol (symbolWith (contentAt t x) 0) []
+headOf Function t x = symbol (symbolWith (contentAt t x) (contentAt t (x + 1))) (childrenAt t x)
+headOf Pointer t x = nothing
+headOf Count t x = nothing
+headOf NoWord t x = nothing
+
+-- The term graph of a table. A variable is told apart by its address.
+abbrev pub graphOf : List ℕ → Graph TableSymbols
+graphOf t = record { size = length t; head = λ x. headOf (kindAt t x) t x }
+
+-- ---- blocks
+
+-- how many children the node at x has; what is no function has none
+unfoldable pub degree : List ℕ → ℕ → ℕ
+degree t x = choose (functionKind (kindAt t x)) (contentAt t (x + 1)) 0
+
+-- the child of a function at place i, from 0
+abbrev pub childOf : List ℕ → ℕ → ℕ → ℕ
+childOf t x i = named t (x + 2 + i)
+
+-- Every block ends inside the table: what a layout that does not break gives (`laid`, proofs/WellFormed.antt).
+abbrev pub Laid : List ℕ → Type 0
+Laid t = (x : ℕ) → functionKind (kindAt t x) ≡ true → x + 1 + contentAt t (x + 1) < length t

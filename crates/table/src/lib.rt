@@ -1,0 +1,12 @@
+// A table of words as a term graph. A table is read through these leaves alone: whether an address
+// is a node, what stands at it, and which nodes are its children.
+//
+// Those that go into a block require that each block ends inside the table, which a checked table
+// gives.
+mod kinds;
+pub mod node;
+
+pub use node::child;
+pub use node::degree;
+pub use node::head;
+pub use node::is_node;

@@ -1,0 +1,5 @@
+pub mod HeadLaws
+pub mod MeetingLaws
+pub mod MeetingsTable
+pub mod Tests
+pub mod WordLaws

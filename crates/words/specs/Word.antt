@@ -1,0 +1,58 @@
+-- One word of the table, by document 01, "The word and the table". All is said of any number, also of one that is no word.
+-- Assumes nothing.
+use Prim.Native.Nat.{ℕ, _+_, _*_, _/_, _%_}
+use mathlib.Core.Bool.{Bool, cond}
+use mathlib.Core.List.{List, [], _∷_}
+use lib.Dec.{eqb}
+use Rattle.words.specs.declared.kind.Kind.{Kind}
+use Rattle.words.specs.declared.kind.Kind.the-variants.{Variable, Constant, Function, Pointer, Count, NoWord}
+
+-- "A word is tag x 65,536 + content"
+abbrev pub wordOf : ℕ → ℕ → ℕ
+wordOf tag content = tag * 65536 + content
+
+-- "the content has 16 bits"
+abbrev pub contentOf : ℕ → ℕ
+contentOf w = w % 65536
+
+-- the five bits of the tag
+abbrev pub tagOf : ℕ → ℕ
+tagOf w = w / 65536 % 32
+
+-- "the 11 bits above the tag", which "are zero" in a word
+abbrev pub highOf : ℕ → ℕ
+highOf w = w / 2097152
+
+-- The table of tags, "as a number". What is no word has no tag there; 0, which is not in the table, stands for that.
+abbrev pub tagNumber : Kind → ℕ
+tagNumber Variable = 16
+tagNumber Constant = 18
+tagNumber Function = 19
+tagNumber Pointer = 20
+tagNumber Count = 24
+tagNumber NoWord = 0
+
+-- whether two kinds are one
+abbrev pub sameKind : Kind → Kind → Bool
+sameKind a b = eqb (tagNumber a) (tagNumber b)
+
+-- the rows of the table of tags
+abbrev pub tableKinds : List Kind
+tableKinds = Variable ∷ Constant ∷ Function ∷ Pointer ∷ Count ∷ []
+
+-- "Those three kinds of word are the nodes", in the order in which their meetings are kept
+abbrev pub nodeKinds : List Kind
+nodeKinds = Variable ∷ Constant ∷ Function ∷ []
+
+-- the first of these kinds that has the tag
+abbrev pub kindAmong : List Kind → ℕ → Kind
+kindAmong [] tag = NoWord
+kindAmong (k ∷ ks) tag = cond (eqb tag (tagNumber k)) k (kindAmong ks tag)
+
+-- the kind of word that has the tag, by the table; none, if the "tag is not in the table"
+abbrev pub kindOfTag : ℕ → Kind
+kindOfTag tag = kindAmong tableKinds tag
+
+-- the kind of a number: it is no word if "a high bit is set"
+unfoldable pub kindOf : ℕ → Kind
+kindOf w = cond (eqb (highOf w) 0) (kindOfTag (tagOf w)) NoWord
