@@ -14,7 +14,7 @@ use Rattle.words.specs.declared.kind.Kind.{Kind}
 use Rattle.words.specs.declared.kind.Kind.the-variants.{Variable, Constant, Function, Pointer, Count, NoWord}
 use Rattle.graphs.proofs.Classes.{never}
 use Rattle.table.specs.Table.{functionKind}
-use Rattle.table.specs.Layout.{argumentKind, Wanted, item, count, arguments, more, itemKind, countKind, canStand, afterItem, less, after, atEnd, breakFrom}
+use Rattle.table.specs.Layout.{argumentKind, Wanted, item, count, arguments, more, countKind, canStand, afterItem, after, atEnd, breakFrom}
 
 -- A word that stands passes the question on.
 pub break-stands : (wanted : Wanted) (a w : ℕ) (rest : List ℕ) → canStand wanted (kindOf w) ≡ true → breakFrom wanted a (w ∷ rest) ≡ breakFrom (after wanted w) (a + 1) rest

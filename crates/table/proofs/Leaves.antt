@@ -4,7 +4,7 @@ use mathlib.Core.Bool.{Bool, true, false}
 use mathlib.Core.List.{List}
 use Prim.Native.Nat.{ℕ, _+_, _≤_, _<_}
 use native.Mathlib.Omega.{arith}
-use lib.ListN.{length, getD, List·getD-eq-default}
+use lib.ListN.{length, List·getD-eq-default}
 use Rattle.words.specs.Word.{kindOf}
 use Rattle.words.specs.declared.kind.Kind.the-variants.{NoWord}
 use Rattle.words.specs.declared.numbers.Label.{Label}

@@ -1,15 +1,15 @@
 -- An ordered list of rows allows one answer at one place, and no row of document 01's table of numbers applies at two places.
 -- Assumes nothing.
-use mathlib.Core.Path.{_≡_, refl, sym, ap, _∙_, subst}
+use mathlib.Core.Path.{_≡_, refl, sym, ap, _∙_}
 use mathlib.Core.Bool.{Bool, true, false}
-use mathlib.Core.Logic.{_⊎_, inl, inr, ⊎-elim}
+use mathlib.Core.Logic.{inl, inr}
 use mathlib.Core.List.{List, [], _∷_}
-use mathlib.Core.Option.{Option, none, some}
-use Prim.Native.Nat.{ℕ, zero, suc, _+_, _≤_, _<_}
+use mathlib.Core.Option.{some}
+use Prim.Native.Nat.{ℕ, _+_, _<_}
 use native.Mathlib.Decide.{decLt}
 use native.Mathlib.Omega.{arith}
-use lib.ListN.{length, take}
-use Rattle.graphs.specs.Partition.{Pair, _∈_, Clash, Cycle}
+use lib.ListN.{take}
+use Rattle.graphs.specs.Partition.{Clash, Cycle}
 use Rattle.graphs.proofs.Classes.{never}
 use Rattle.graphs.proofs.Theorems.{first-pairs-grow, clash-grows, cycle-grows}
 use Rattle.table.specs.Table.{graphOf}

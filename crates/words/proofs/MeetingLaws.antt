@@ -6,10 +6,10 @@
 -- Assumes nothing.
 use Prim.Native.Nat.{ℕ}
 use mathlib.Core.Path.{_≡_, refl, sym, ap, _∙_}
-use mathlib.Core.Bool.{Bool, true, false, cond, _&&_, _||_, and-true, true≢false}
+use mathlib.Core.Bool.{Bool, true, false, cond, _||_, and-true, true≢false}
 use mathlib.Core.Logic.{_↔_}
 use native.Mathlib.Omega.{arith}
-use Rattle.words.specs.Word.{sameKind}
+use Rattle.words.specs.Word.{tagNumber, sameKind}
 use Rattle.words.specs.Head.{Counted, kindOfHead, isVariable, isFunction, symbolOf, labelsAgree, symbolsAgree, headsAgree}
 use Rattle.words.specs.Meeting.{meetingOf, outcomeOf, DifferentSymbols, FunctionsOfOneSymbol}
 use Rattle.words.specs.declared.kind.Kind.{Kind}
@@ -51,27 +51,43 @@ abbrev tested : Bool → Bool → Bool → Bool → Outcome
 tested v w agree function =
     cond (v || w) Outcome.Joined (cond agree (cond function Outcome.JoinedGoDown Outcome.Joined) Outcome.Clash)
 
-clash-tests : (v w agree function : Bool) → tested v w agree function ≡ Outcome.Clash ↔ ((v ≡ false) × ((w ≡ false) × (agree ≡ false)))
-clash-tests true w agree function = (λ e. absurd (let z : _≡_ {A = ℕ} 0 1 = cc in omega arith), λ d. absurd (true≢false (d .0)))
-clash-tests false true agree function = (λ e. absurd (let z : _≡_ {A = ℕ} 0 1 = cc in omega arith), λ d. absurd (true≢false (d .1 .0)))
-clash-tests false false true true = (λ e. absurd (let z : _≡_ {A = ℕ} 0 1 = cc in omega arith), λ d. absurd (true≢false (d .1 .1)))
-clash-tests false false true false = (λ e. absurd (let z : _≡_ {A = ℕ} 0 1 = cc in omega arith), λ d. absurd (true≢false (d .1 .1)))
+-- no outcome is another
+abbrev outcomeNumber : Outcome → ℕ
+outcomeNumber Outcome.Joined = 0
+outcomeNumber Outcome.JoinedGoDown = 1
+outcomeNumber Outcome.Clash = 2
+
+clash-tests :
+    (v w agree function : Bool) →
+    tested v w agree function ≡ Outcome.Clash ↔ ((v ≡ false) × ((w ≡ false) × (agree ≡ false)))
+clash-tests true w agree function = (λ e. absurd (omega (arith, ap outcomeNumber e)), λ d. absurd (true≢false (d .0)))
+clash-tests false true agree function = (λ e. absurd (omega (arith, ap outcomeNumber e)), λ d. absurd (true≢false (d .1 .0)))
+clash-tests false false true true = (λ e. absurd (omega (arith, ap outcomeNumber e)), λ d. absurd (true≢false (d .1 .1)))
+clash-tests false false true false = (λ e. absurd (omega (arith, ap outcomeNumber e)), λ d. absurd (true≢false (d .1 .1)))
 clash-tests false false false function = (λ e. (refl, (refl, refl)), λ d. refl)
 
 down-tests :
     (v w agree function : Bool) →
-    tested v w agree function ≡ Outcome.JoinedGoDown ↔ ((v ≡ false) × ((w ≡ false) × ((agree ≡ true) × (function ≡ true))))
-down-tests true w agree function = (λ e. absurd (let z : _≡_ {A = ℕ} 0 1 = cc in omega arith), λ d. absurd (true≢false (d .0)))
-down-tests false true agree function = (λ e. absurd (let z : _≡_ {A = ℕ} 0 1 = cc in omega arith), λ d. absurd (true≢false (d .1 .0)))
+    tested v w agree function ≡ Outcome.JoinedGoDown
+    ↔ ((v ≡ false) × ((w ≡ false) × ((agree ≡ true) × (function ≡ true))))
+down-tests true w agree function = (λ e. absurd (omega (arith, ap outcomeNumber e)), λ d. absurd (true≢false (d .0)))
+down-tests false true agree function = (λ e. absurd (omega (arith, ap outcomeNumber e)), λ d. absurd (true≢false (d .1 .0)))
 down-tests false false true true = (λ e. (refl, (refl, (refl, refl))), λ d. refl)
-down-tests false false true false = (λ e. absurd (let z : _≡_ {A = ℕ} 0 1 = cc in omega arith), λ d. absurd (true≢false (sym (d .1 .1 .1))))
-down-tests false false false function = (λ e. absurd (let z : _≡_ {A = ℕ} 0 1 = cc in omega arith), λ d. absurd (true≢false (sym (d .1 .1 .0))))
+down-tests false false true false =
+    (λ e. absurd (omega (arith, ap outcomeNumber e)), λ d. absurd (true≢false (sym (d .1 .1 .1))))
+down-tests false false false function =
+    (λ e. absurd (omega (arith, ap outcomeNumber e)), λ d. absurd (true≢false (sym (d .1 .1 .0))))
 
 no-variable : (h : Head) → isVariable h ≡ false ↔ (kindOfHead h ≡ Kind.Variable → ⊥)
 no-variable h = false-exactly _ (same-kind-exactly (kindOfHead h) Kind.Variable)
 
+function-is-other : (h : Head) → kindOfHead h ≡ Kind.Function → kindOfHead h ≡ Kind.Variable → ⊥
+function-is-other h f v = omega (arith, ap tagNumber (sym f ∙ v))
+
 module _ (l r : Head) where
-  agree-exactly : (kindOfHead l ≡ Kind.Variable → ⊥) → headsAgree l r ≡ true ↔ ((kindOfHead l ≡ kindOfHead r) × (symbolOf l ≡ symbolOf r))
+  agree-exactly :
+      (kindOfHead l ≡ Kind.Variable → ⊥) →
+      headsAgree l r ≡ true ↔ ((kindOfHead l ≡ kindOfHead r) × (symbolOf l ≡ symbolOf r))
   agree-exactly other =
       and-exactly (sameKind (kindOfHead l) (kindOfHead r)) _
       (same-kind-exactly (kindOfHead l) (kindOfHead r)) (symbols-agree-exactly l r other)
@@ -98,7 +114,9 @@ module _ (l r : Head) where
         let t = clashes .0 e in
         let other = no-variable l .0 (t .0) in
         (other, (no-variable r .0 (t .1 .0), false-exactly (headsAgree l r) (agree-exactly other) .0 (t .1 .1))),
-    λ d. clashes .1 (no-variable l .1 (d .0), (no-variable r .1 (d .1 .0), false-exactly (headsAgree l r) (agree-exactly (d .0)) .1 (d .1 .1))),
+    λ d.
+        let apart = false-exactly (headsAgree l r) (agree-exactly (d .0)) .1 (d .1 .1) in
+        clashes .1 (no-variable l .1 (d .0), (no-variable r .1 (d .1 .0), apart)),
   )
 
   pub clash-exactly : Counted l → Counted r → outcomeOf l r ≡ Outcome.Clash ↔ DifferentSymbols l r
@@ -106,9 +124,6 @@ module _ (l r : Head) where
     λ e. let t = clash-by-kind .0 e in (t .0, (t .1 .0, λ s. t .1 .1 (kinds-by-symbols l r p q s, s))),
     λ d. clash-by-kind .1 (d .0, (d .1 .0, λ s. d .1 .1 (s .1))),
   )
-
-  function-is-other : (h : Head) → kindOfHead h ≡ Kind.Function → kindOfHead h ≡ Kind.Variable → ⊥
-  function-is-other h f v = let z : _≡_ {A = ℕ} 0 1 = cc in omega arith
 
   pub go-down-exactly : outcomeOf l r ≡ Outcome.JoinedGoDown ↔ FunctionsOfOneSymbol l r
   go-down-exactly = (
@@ -118,14 +133,9 @@ module _ (l r : Head) where
         let function = same-kind-exactly (kindOfHead l) Kind.Function .0 (t .1 .1 .1) in
         (function, (sym (one .0) ∙ function, one .1)),
     λ d.
-        goes-down .1 (
-          no-variable l .1 (function-is-other l (d .0)),
-          (
-            no-variable r .1 (function-is-other r (d .1 .0)),
-            (
-              agree-exactly (function-is-other l (d .0)) .1 (d .0 ∙ sym (d .1 .0), d .1 .1),
-              same-kind-exactly (kindOfHead l) Kind.Function .1 (d .0),
-            ),
-          ),
-        ),
+        let left = function-is-other l (d .0) in
+        let right = function-is-other r (d .1 .0) in
+        let one = agree-exactly left .1 (d .0 ∙ sym (d .1 .0), d .1 .1) in
+        let function = same-kind-exactly (kindOfHead l) Kind.Function .1 (d .0) in
+        goes-down .1 (no-variable l .1 left, (no-variable r .1 right, (one, function))),
   )

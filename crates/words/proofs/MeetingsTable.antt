@@ -17,7 +17,9 @@ abbrev pub tabulated : List (List Action)
 tabulated = map (λ (left : Kind). map (meetingOfKinds left) nodeKinds) nodeKinds
 
 -- what is tabulated by the kinds of nodes is read at a head's number
-entry : {A : Type 0} (rule : Kind → A) (default : A) (h : Head) → getD (map rule nodeKinds) (headNumber h) default ≡ rule (kindOfHead h)
+entry :
+    {A : Type 0} (rule : Kind → A) (default : A) (h : Head) →
+    getD (map rule nodeKinds) (headNumber h) default ≡ rule (kindOfHead h)
 entry rule default (Variable l) = refl
 entry rule default (Constant l) = refl
 entry rule default (Function l n) = refl

@@ -1,7 +1,7 @@
 -- What happens when two heads meet, by document 01, "The list and the partition". Assumes nothing.
 use Prim.Native.Nat.{ℕ}
 use mathlib.Core.Path.{_≡_}
-use mathlib.Core.Bool.{Bool, cond, _&&_, _||_}
+use mathlib.Core.Bool.{cond, _&&_, _||_}
 use Rattle.words.specs.Word.{sameKind}
 use Rattle.words.specs.Head.{kindOfHead, isVariable, isFunction, symbolOf, headsAgree}
 use Rattle.words.specs.declared.kind.Kind.{Kind}

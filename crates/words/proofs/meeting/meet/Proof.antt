@@ -1,5 +1,5 @@
--- `words::meeting::meet` meets its contract. Each way out carries out the entry that was found; `cc` takes together which entry it is, that it
--- is the meeting of the two heads, and how the test went. Assumes nothing.
+-- `words::meeting::meet` meets its contract. Each way out carries out the entry that was found; `cc` takes together which entry it is,
+-- that it is the meeting of the two heads, and how the test went. Assumes nothing.
 use mathlib.Core.Path.{refl}
 use mathlib.Core.Bool.{true, false}
 use borrow.Author.Needs.{needs}
@@ -30,13 +30,19 @@ enum-told-4 : tie.Need-enum-told-4
 enum-told-4 c = search needs
 
 returns : tie.Need-returns
-returns c = let p : tie.Start = search needs in outcome-by-meeting (p .args .left) (p .args .right) Join _ _ (cc) refl refl
+returns c =
+    let p : tie.Start = search needs in
+    outcome-by-meeting (p .args .left) (p .args .right) Join _ _ (cc) refl refl
 
 returns-2 : tie.Need-returns-2
-returns-2 c = let p : tie.Start = search needs in outcome-by-meeting (p .args .left) (p .args .right) JoinIfLabelsAgree true _ (cc) (cc) refl
+returns-2 c =
+    let p : tie.Start = search needs in
+    outcome-by-meeting (p .args .left) (p .args .right) JoinIfLabelsAgree true _ (cc) (cc) refl
 
 returns-3 : tie.Need-returns-3
-returns-3 c = let p : tie.Start = search needs in outcome-by-meeting (p .args .left) (p .args .right) JoinIfLabelsAgree false _ (cc) (cc) refl
+returns-3 c =
+    let p : tie.Start = search needs in
+    outcome-by-meeting (p .args .left) (p .args .right) JoinIfLabelsAgree false _ (cc) (cc) refl
 
 returns-4 : tie.Need-returns-4
 returns-4 c =
@@ -49,7 +55,9 @@ returns-5 c =
     outcome-by-meeting (p .args .left) (p .args .right) GoDownIfSymbolsAgree _ false (cc) refl (cc)
 
 returns-6 : tie.Need-returns-6
-returns-6 c = let p : tie.Start = search needs in outcome-by-meeting (p .args .left) (p .args .right) Clash _ _ (cc) refl refl
+returns-6 c =
+    let p : tie.Start = search needs in
+    outcome-by-meeting (p .args .left) (p .args .right) Clash _ _ (cc) refl refl
 
 pub meet-spec : {M : Type 1} → statement M
 meet-spec =

@@ -1,4 +1,5 @@
--- `words::word::kind` meets its contract. Each arm knows the quotient, of which the kind is computed; the last knows that it is none of the five.
+-- `words::word::kind` meets its contract. Each arm knows the quotient, of which the kind is computed; the last knows that it is none
+-- of the five tags.
 -- Assumes nothing.
 use native.Mathlib.Omega.{arith}
 use Rattle.words.proofs.WordLaws.{kind-by-top, no-kind-by-top}
