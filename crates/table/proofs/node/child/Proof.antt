@@ -1,25 +1,20 @@
+-- `table::node::child` meets its contract.
+-- Assumes nothing.
 use native.Mathlib.Omega.{arith}
-use Rattle.table.proofs.Leaves.{degree-inside}
 use borrow.Author.Needs.{needs}
+use Rattle.table.proofs.Leaves.{degree-inside}
 use Rattle.table.proofs.node.child.Statement.{statement}
 use Rattle.table.proofs.node.child.Tie as tie
-use Rattle.table.proofs.node.child.Reads as reads
-use Rattle.table.proofs.node.child.Lts as lts
-use Rattle.table.proofs.node.named_at.Reads as named-at-reads
 
--- src/node.rt:54:17
 add-first : tie.Need-add-first
 add-first c = omega (arith, degree-inside (c .before .before .args .table .now) (c .before .before .pre .0) (c .before .before .args .x .0) (c .before .before .args .i) (c .before .before .pre .2))
 
--- src/node.rt:55:21
 add-named-at : tie.Need-add-named-at
 add-named-at c = omega (arith, degree-inside (c .before .before .args .table .now) (c .before .before .pre .0) (c .before .before .args .x .0) (c .before .before .args .i) (c .before .before .pre .2))
 
--- src/node.rt:55:5
 named-at-requires : tie.Need-named-at-requires
 named-at-requires c κs = omega (arith, degree-inside (c .before .before .args .table .now) (c .before .before .pre .0) (c .before .before .args .x .0) (c .before .before .args .i) (c .before .before .pre .2))
 
--- src/node.rt:50:1
 returns : tie.Need-returns
 returns c = search needs
 
