@@ -1,9 +1,10 @@
--- An ordered list of rows allows one answer at one place, and no row of document 01's table of numbers applies at two places.
+-- An ordered list of rows allows one answer at one place (`answered-only`), and may be put together from two
+-- (`refused-first`, `passed-first`); no row of document 01's table of numbers applies at two places (`fault-once`).
 -- Assumes nothing.
 use mathlib.Core.Path.{_≡_, refl, sym, ap, _∙_}
 use mathlib.Core.Bool.{Bool, true, false}
 use mathlib.Core.Logic.{inl, inr}
-use mathlib.Core.List.{List, [], _∷_}
+use mathlib.Core.List.{List, [], _∷_, _++_}
 use mathlib.Core.Option.{some}
 use Prim.Native.Nat.{ℕ, _+_, _<_}
 use native.Mathlib.Decide.{decLt}
@@ -14,7 +15,7 @@ use Rattle.graphs.proofs.Classes.{never}
 use Rattle.graphs.proofs.Theorems.{first-pairs-grow, clash-grows, cycle-grows}
 use Rattle.table.specs.Table.{graphOf}
 use Rattle.table.specs.Answers.{Lowest, First, Answered}
-use Rattle.table.specs.Faults.{Job, pairsOf, Row, Fault, size-fault, room-fault, word-fault, layout-fault, pointer-fault, name-fault, loop-fault, list-fault, address-fault, clash-fault, cycle-fault}
+use Rattle.table.specs.Faults.{Job, pairsOf, Row, SIZE, ROOM, WORD, LAYOUT, POINTER, NAME, LOOP, LIST, ADDRESS, CLASH, CYCLE, number, Fault, size-fault, room-fault, word-fault, layout-fault, pointer-fault, name-fault, loop-fault, list-fault, address-fault, clash-fault, cycle-fault}
 
 -- two numbers, neither of which is below the other
 neither-below : {j k : ℕ} → (j < k → ⊥) → (k < j → ⊥) → j ≡ k
@@ -42,6 +43,33 @@ module _ {Row : Type 0} (number : Row → ℕ) (Applies : Row → ℕ → Type 0
   answered-only (row ∷ rows) a p b q (inl (x, y)) (inr (none-applies, rest)) = absurd (none-applies p y)
   answered-only (row ∷ rows) a p b q (inr (none-applies, rest)) (inl (v, w)) = absurd (none-applies q w)
   answered-only (row ∷ rows) a p b q (inr (n, l)) (inr (m, r)) = answered-only rows a p b q l r
+
+-- An order of rows put together from two: what the first part refuses stands, and what it lets pass the second part answers.
+module _ {Row : Type 0} (number : Row → ℕ) (Applies : Row → ℕ → Type 0) where
+  pub refused-first : (rows rest : List Row) (a p : ℕ) → (a ≡ 0 → ⊥) → Answered number Applies rows a p → Answered number Applies (rows ++ rest) a p
+  refused-first [] rest a p refused (x, y) = absurd (refused x)
+  refused-first (row ∷ rows) rest a p refused (inl x) = inl x
+  refused-first (row ∷ rows) rest a p refused (inr (none-applies, later)) = inr (none-applies, refused-first rows rest a p refused later)
+
+  pub passed-first : ((row : Row) → number row ≡ 0 → ⊥) → (rows rest : List Row) (p b q : ℕ) → Answered number Applies rows 0 p → Answered number Applies rest b q → Answered number Applies (rows ++ rest) b q
+  passed-first positive [] rest p b q x later = later
+  passed-first positive (row ∷ rows) rest p b q (inl (e, x)) later = absurd (positive row (sym e))
+  passed-first positive (row ∷ rows) rest p b q (inr (none-applies, x)) later = inr (none-applies, passed-first positive rows rest p b q x later)
+
+-- no row has number 0
+pub number-positive : (row : Row) → number row ≡ 0 → ⊥
+unfolding number
+number-positive SIZE e = omega arith
+number-positive ROOM e = omega arith
+number-positive WORD e = omega arith
+number-positive LAYOUT e = omega arith
+number-positive POINTER e = omega arith
+number-positive NAME e = omega arith
+number-positive LOOP e = omega arith
+number-positive LIST e = omega arith
+number-positive ADDRESS e = omega arith
+number-positive CLASH e = omega arith
+number-positive CYCLE e = omega arith
 
 -- No row applies at two places.
 module _ (job : Job) where

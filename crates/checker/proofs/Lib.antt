@@ -1,0 +1,5 @@
+pub mod LayoutLaws
+pub mod LoopLaws
+pub mod Search
+pub mod Stages
+pub mod WordLaws

@@ -1,0 +1,101 @@
+-- The search for cycles, with each node its own class, finds the loops of a table.
+--
+-- In order: the row of own classes; it can be searched (`own-searchable`); ways of its net are children (`way-child`,
+-- `child-way`), so what the search says is true of the table (`loops-found`); what is kept (`kept-behind`).
+-- Assumes nothing.
+use mathlib.Core.Path.{_≡_, refl, sym, ap, _∙_, subst}
+use mathlib.Core.Bool.{Bool, true, false}
+use mathlib.Core.List.{List, [], _∷_, _++_}
+use Prim.Native.Nat.{ℕ, zero, suc, _+_, _-_, _*_, _≤_, _<_}
+use native.Mathlib.Omega.{arith}
+use lib.ListN.{length, getD, drop, replicate, length-append, length-drop, length-replicate, List·getD-append}
+use lib.Seq.{drop-at, drop-drop}
+use Rattle.graphs.specs.Graph.{Child, Steps}
+use Rattle.graphs.specs.Partition.{entry}
+use Rattle.graphs.proofs.Finite.{steps-map}
+use Rattle.table.specs.Table.{choose, kindAt, contentAt, nodeKind, functionKind, graphOf, degree, childOf}
+use Rattle.table.proofs.Children.{NamedChild, named-child, degree-child}
+use Rattle.table.proofs.Shape.{Shaped, inside-kind, shaped-laid, shaped-degree, shaped-child}
+use Rattle.cycles.specs.Net.{Way, netOf, Returns, Searchable, Searched}
+use Rattle.checker.specs.Stages.{counting, Roomy, Kept, Loops, LoopSearch}
+
+-- ---- the row of own classes
+
+pub counting-length : (from k : ℕ) → length (counting from k) ≡ k
+counting-length from zero = refl
+counting-length from (suc k) = ap suc (counting-length (suc from) k)
+
+pub counting-at : (from k i : ℕ) → i < k → getD (counting from k) i 0 ≡ from + i
+counting-at from zero i h = absurd (omega arith)
+counting-at from (suc k) zero h = omega arith
+counting-at from (suc k) (suc i) h = omega (arith, counting-at (suc from) k i (omega arith))
+
+module _ (t row rest : List ℕ) (own : row ≡ counting 0 (length t) ++ rest) where
+  own-entry : (x : ℕ) → x < length t → entry row x ≡ x
+  own-entry x h =
+      ap (λ (r : List ℕ). getD r x 0) own
+      ∙ List·getD-append (counting 0 (length t)) rest 0 x (omega (arith, counting-length 0 (length t)))
+      ∙ (let e : getD (counting 0 (length t)) x 0 ≡ x = omega (arith, counting-at 0 (length t) x h) in e)
+
+  module _ (shaped : Shaped t) where
+    child-below : (x i : ℕ) → i < degree t x → childOf t x i < length t
+    child-below x i h = inside-kind t (childOf t x i) nodeKind refl (shaped-child shaped x i h)
+
+    own-child : (x i : ℕ) → i < degree t x → entry row (childOf t x i) ≡ childOf t x i
+    own-child x i h = own-entry (childOf t x i) (child-below x i h)
+
+    pub own-searchable : (work-room : ℕ) → length t ≤ 4096 → 2 * length t ≤ work-room → Searchable t row work-room
+    own-searchable work-room small enough =
+        record
+          { small = small
+          ; laid = shaped-laid shaped
+          ; counts = shaped-degree shaped
+          ; row-room = omega (arith, ap length own, length-append (counting 0 (length t)) rest, counting-length 0 (length t))
+          ; work-enough = enough
+          ; child-inside = child-below
+          ; name-inside = λ x i h. omega (arith, own-child x i h, child-below x i h)
+          ; name-own = λ x i h. ap (entry row) (own-child x i h)
+          }
+
+    way-child : (x y : ℕ) → Way (netOf t row) x y → Child (graphOf t) x y
+    way-child x y (i, h, e) = subst (Child (graphOf t) x) (sym (own-child x i h) ∙ e) (degree-child t x i h)
+
+    within-degree : {x y : ℕ} (c : NamedChild t x y) → c .place < degree t x
+    unfolding degree choose
+    within-degree {x} c =
+        omega (arith, ap (λ (b : Bool). choose b (contentAt t (x + 1)) 0) (c .function-there), c .within)
+
+    child-way : (x y : ℕ) → Child (graphOf t) x y → Way (netOf t row) x y
+    child-way x y d =
+        let c : NamedChild t x y = named-child t x y d in
+        (c .place, within-degree c, own-child x (c .place) (within-degree c) ∙ c .is)
+
+    pub loops-found : (found : Bool) → Returns found (netOf t row) → Loops found t
+    loops-found true (x, s) = (x, steps-map way-child s)
+    loops-found false none-returns = λ x s. none-returns x (steps-map child-way s)
+
+-- ---- what is kept
+
+-- what stands behind a front that was replaced
+pub kept-behind : (front row : List ℕ) (k m : ℕ) → length front ≡ k → k ≤ m → drop m (front ++ drop k row) ≡ drop m row
+kept-behind front row k m e h =
+    let j : k + (m - k) ≡ m = omega arith in
+    ap (λ (i : ℕ). drop i (front ++ drop k row)) (sym j)
+    ∙ sym (drop-drop (m - k) k (front ++ drop k row))
+    ∙ ap (drop (m - k)) (drop-at front (drop k row) k e)
+    ∙ drop-drop (m - k) k row
+    ∙ ap (λ (i : ℕ). drop i row) j
+
+pub loop-search : {t class work class-after work-after : List ℕ} {found : Bool} → Roomy t class work → Shaped t
+    → class-after ≡ counting 0 (length t) ++ drop (length t) class → Searched t class-after work found work-after → LoopSearch t class work found class-after work-after
+loop-search {t} {class} {work} {class-after} {work-after} {found} roomy shaped own searched =
+    record
+      { truth = loops-found t class-after (drop (length t) class) own shaped found (searched .truth)
+      ; kept =
+          record
+            { class-kept = ap (drop (length t)) own ∙ kept-behind (counting 0 (length t)) class (length t) (length t) (counting-length 0 (length t)) (omega arith)
+            ; work-kept =
+                ap (drop (4 * length t)) (searched .cleared)
+                ∙ kept-behind (replicate (2 * length t) 0) work (2 * length t) (4 * length t) (length-replicate (2 * length t) 0) (omega arith)
+            }
+      }

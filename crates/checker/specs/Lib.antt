@@ -1,0 +1,4 @@
+-- Check is what the check promises; the others serve this crate alone.
+pub mod Check
+pub mod Layout
+pub mod Stages

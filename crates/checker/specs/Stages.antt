@@ -1,0 +1,68 @@
+-- What the stages of the check promise each other. For this crate alone. Assumes nothing.
+use mathlib.Core.Path.{_≡_}
+use mathlib.Core.Bool.{Bool, true, false}
+use mathlib.Core.List.{List, [], _∷_}
+use Prim.Native.Nat.{ℕ, zero, suc, _+_, _*_, _≤_, _<_}
+use lib.ListN.{length, drop}
+use Rattle.graphs.specs.Graph.{Child, Steps}
+use Rattle.table.specs.Table.{graphOf}
+use Rattle.table.specs.Answers.{Answered}
+use Rattle.table.specs.Faults.{Row, WORD, LAYOUT, POINTER, NAME, LOOP, Fault, number}
+use Rattle.table.proofs.Shape.{Shaped}
+use Rattle.checker.specs.declared.answer.Checked.{Checked}
+use Rattle.checker.specs.declared.answer.Checked.the-variants.{Accepted, Size, Room, Word, Layout, Pointer, Name, Loop}
+use Rattle.checker.specs.Check.{numberOf, placeOf}
+
+-- Rows that speak of the table alone answer so, whatever the list and the room.
+abbrev pub ByRows : List Row → List ℕ → Checked → Type 0
+ByRows rows t answer =
+    (list : List ℕ) (class-room work-room : ℕ)
+    → Answered number (Fault (record { table = t; list = list; class-room = class-room; work-room = work-room })) rows (numberOf answer) (placeOf answer)
+
+abbrev pub shapeRows : List Row
+shapeRows = WORD ∷ LAYOUT ∷ POINTER ∷ []
+
+abbrev pub nameRows : List Row
+nameRows = NAME ∷ LOOP ∷ []
+
+abbrev pub passes : Checked → Bool
+passes Accepted = true
+passes Size = false
+passes Room = false
+passes (Word a) = false
+passes (Layout a) = false
+passes (Pointer a) = false
+passes (Name a) = false
+passes Loop = false
+
+-- 0, 1, 2, .. : so many numbers from one on
+abbrev pub counting : ℕ → ℕ → List ℕ
+counting from zero = []
+counting from (suc k) = from ∷ counting (suc from) k
+
+-- a table, of a size that is allowed, with room for it
+pub record Roomy (t class work : List ℕ) : Type 0 where
+  pub some-word : 0 < length t
+  pub small : length t ≤ 4096
+  pub class-enough : length t ≤ length class
+  pub work-enough : 4 * length t ≤ length work
+
+-- the rows that a stage was lent: nothing above n and 4n changed
+pub record Kept (t class work class-after work-after : List ℕ) : Type 0 where
+  pub class-kept : drop (length t) class-after ≡ drop (length t) class
+  pub work-kept : drop (4 * length t) work-after ≡ drop (4 * length t) work
+
+-- what a stage answers by its rows, and what it keeps
+pub record Stage (rows : List Row) (t class work : List ℕ) (answer : Checked) (class-after work-after : List ℕ) : Type 0 where
+  pub answered : ByRows rows t answer
+  pub kept : Kept t class work class-after work-after
+
+-- some node reaches itself, or none does
+abbrev pub Loops : Bool → List ℕ → Type 0
+Loops true t = (x : ℕ) × Steps (Child (graphOf t)) x x
+Loops false t = (x : ℕ) → Steps (Child (graphOf t)) x x → ⊥
+
+-- what the search for loops finds, and what it keeps
+pub record LoopSearch (t class work : List ℕ) (found : Bool) (class-after work-after : List ℕ) : Type 0 where
+  pub truth : Loops found t
+  pub kept : Kept t class work class-after work-after

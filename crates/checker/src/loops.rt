@@ -1,0 +1,28 @@
+// Answer 7, LOOP: "some node reaches itself". A loop is a cycle where each node is its own class.
+ghost use mathlib.Core.Path.{_≡_};
+ghost use mathlib.Core.List.{_++_};
+ghost use Prim.Native.Nat.{_≤_};
+ghost use lib.ListN.{length, drop};
+ghost use Rattle.table.proofs.Shape.{Shaped};
+ghost use Rattle.checker.specs.Stages.{counting, Roomy, LoopSearch};
+
+// Each of the first n addresses becomes its own class.
+fn own_classes(class: &mut [u16], n: usize)
+    requires { ⌜ (n ≤ length (now class)) × (n ≤ 4096) ⌝ }
+    ensures { λ _. ⌜ now (class .exit) ≡ counting 0 n ++ drop n (now (class .entry)) ⌝ }
+{
+    let mut x = 0;
+    while x < n {
+        class[x] = x as u16;
+        x += 1;
+    }
+}
+
+// Whether some node reaches itself through children.
+pub(crate) fn has_loop(table: &[u32], class: &mut [u16], work: &mut [u16]) -> bool
+    requires { ⌜ Roomy (now table) (now class) (now work) × Shaped (now table) ⌝ }
+    ensures { λ r. ⌜ LoopSearch (now (table .entry)) (now (class .entry)) (now (work .entry)) r (now (class .exit)) (now (work .exit)) ⌝ }
+{
+    own_classes(class, table.len());
+    cycles::reaches_itself(table, class, work)
+}

@@ -1,0 +1,236 @@
+-- The moves of the search keep its invariant: a new number is begun (`begin`), a way was looked at (`advance`), and the number
+-- at the end of the path is finished (`finish`). Each is `Moved`. Assumes nothing.
+use mathlib.Core.Path.{_≡_, refl, sym, ap, _∙_, subst}
+use mathlib.Core.List.{List}
+use Prim.Native.Nat.{ℕ, zero, suc, _+_, _-_, _*_, _≤_, _<_}
+use native.Mathlib.Decide.{ℕ-discrete, decLt}
+use native.Mathlib.Omega.{arith}
+use lib.ListN.{length, getD, set}
+use Rattle.cycles.specs.Net.{Net, Way}
+use Rattle.cycles.specs.Marks.{mark, onPath, news, Safe, safe, Search, Moved}
+use Rattle.cycles.proofs.Totals.{total-part}
+use Rattle.cycles.proofs.Stores.{Raised, raised-mark, raised-push, pushed, raised-grown, raised-less, raised-begun, raised-new}
+
+way-at : (N : Net) {x x′ y y′ : ℕ} → x′ ≡ x → y′ ≡ y → Way N x y → Way N x′ y′
+way-at N {x} {x′} {y} {y′} p q way =
+    subst (λ (z : ℕ). Way N z y′) (sym p) (subst (λ (z : ℕ). Way N x z) (sym q) way)
+
+-- What a raised mark leaves of the path up to `depth`, if the raised number is not on it, or stays unfinished.
+module _ {N : Net} {before depth x : ℕ} {w w′ : List ℕ} (S : Search N w before) (within : depth ≤ before) (R : Raised N before x w w′) where
+  marks-on-path : (k : ℕ) → k < depth → (onPath N w k ≡ x → ⊥) → mark w′ (onPath N w′ k) ≡ mark w (onPath N w k)
+  marks-on-path k h other =
+      ap (mark w′) (R .path k (omega arith)) ∙ R .others (onPath N w k) (S .inside k (omega arith)) other
+
+  bounded′ : mark w x < N .count x + 2 → (z : ℕ) → z < N .size → mark w′ z ≤ N .count z + 2
+  bounded′ h z i = go (ℕ-discrete z x)
+    where
+      go : Dec (z ≡ x) → mark w′ z ≤ N .count z + 2
+      go (yes e) = omega (arith, R .one, ap (mark w′) e, ap (N .count) e)
+      go (no e) = omega (arith, R .others z i e, S .bounded z i)
+
+  seen′ : ((i : ℕ) → i < N .count x → i ≡ mark w x - 1 → 0 < mark w x → Safe N (N .next x i))
+      → (z i : ℕ) → z < N .size → i < N .count z → i + 1 < mark w′ z → Safe N (N .next z i)
+  seen′ last z i h j k = go (ℕ-discrete z x)
+    where
+      at-x : (i < N .count x) → (i + 1 < mark w x + 1) → Dec (i + 1 < mark w x) → Safe N (N .next x i)
+      at-x j k (yes l) = S .seen x i (R .inside) j l
+      at-x j k (no l) = last i j (omega arith) (omega arith)
+
+      go : Dec (z ≡ x) → Safe N (N .next z i)
+      go (yes e) =
+          subst (λ (y : ℕ). Safe N (N .next y i)) (sym e)
+          (at-x (omega (arith, ap (N .count) e)) (omega (arith, ap (mark w′) e, R .one)) (decLt (i + 1) (mark w x)))
+      go (no e) = S .seen z i h j (omega (arith, R .others z h e))
+
+  inside′ : (k : ℕ) → k < depth → onPath N w′ k < N .size
+  inside′ k h = omega (arith, R .path k (omega arith), S .inside k (omega arith))
+
+  begun′ : (k : ℕ) → k < depth → 0 < mark w′ (onPath N w′ k)
+  begun′ k h = omega (arith, ap (mark w′) (R .path k (omega arith)), raised-grown R .marks (onPath N w k) (S .inside k (omega arith)), S .begun k (omega arith))
+
+  linked′ : (k : ℕ) → k + 1 < depth → Way N (onPath N w′ k) (onPath N w′ (k + 1))
+  linked′ k h = way-at N (R .path k (omega arith)) (R .path (k + 1) (omega arith)) (S .linked k (omega arith))
+
+  distinct′ : (j k : ℕ) → j < k → k < depth → onPath N w′ j ≡ onPath N w′ k → ⊥
+  distinct′ j k h i e = S .distinct j k h (omega arith) (sym (R .path j (omega arith)) ∙ e ∙ R .path k (omega arith))
+
+-- From a finished number every walk ends.
+pub finished-safe : {N : Net} {w : List ℕ} {depth : ℕ} → Search N w depth → (x : ℕ) → x < N .size → mark w x ≡ N .count x + 2 → Safe N x
+finished-safe {N} {w} S x h m =
+    safe (λ y way. subst (λ (z : ℕ). Safe N z) (way .2) (S .seen x (way .0) h (way .1) (omega (arith, way .1))))
+
+module _ {N : Net} {w : List ℕ} {depth : ℕ} (S : Search N w depth) where
+  -- The number at the end of the path has no way left: it is finished, and leaves the path.
+  pub finish : (x : ℕ) → 0 < depth → onPath N w (depth - 1) ≡ x → mark w x ≡ N .count x + 1
+      → Moved N w (set w x (mark w x + 1)) (depth - 1)
+  finish x some end all =
+      record {
+        search = record {
+          room = omega (arith, S .room, R .long);
+          few = omega (arith, S .few, raised-begun R (omega arith));
+          bounded = bounded′ S within R (omega arith);
+          seen = seen′ S within R (λ i h e b. absurd (omega arith));
+          inside = inside′ S within R;
+          begun = begun′ S within R;
+          unfinished = λ k h. omega (arith, marks-on-path S within R k h (other k h), S .unfinished k (omega arith), ap (N .count) (R .path k (omega arith)));
+          linked = linked′ S within R;
+          distinct = distinct′ S within R;
+          whole = λ z h b u. whole′ z h b u (ℕ-discrete z x);
+        };
+        grown = raised-grown R;
+        less = raised-less R (omega arith);
+      }
+    where
+      w′ : List ℕ
+      w′ = set w x (mark w x + 1)
+
+      within : depth - 1 ≤ depth
+      within = omega arith
+
+      inside : x < N .size
+      inside = omega (arith, S .inside (depth - 1) (omega arith))
+
+      R : Raised N depth x w w′
+      R = raised-mark N depth x w inside (S .room)
+
+      other : (k : ℕ) → k < depth - 1 → onPath N w k ≡ x → ⊥
+      other k h e = S .distinct k (depth - 1) h (omega arith) (e ∙ sym end)
+
+      whole′ : (z : ℕ) → z < N .size → 0 < mark w′ z → mark w′ z ≤ N .count z + 1 → Dec (z ≡ x)
+          → (k : ℕ) × (k < depth - 1) × (onPath N w′ k ≡ z)
+      whole′ z h b u (yes e) = absurd (omega (arith, R .one, ap (mark w′) e, ap (N .count) e))
+      whole′ z h b u (no e) = shorter (S .whole z h (omega (arith, R .others z h e)) (omega (arith, R .others z h e)))
+        where
+          shorter : (k : ℕ) × (k < depth) × (onPath N w k ≡ z) → (k : ℕ) × (k < depth - 1) × (onPath N w′ k ≡ z)
+          shorter p = (p .0, before, R .path (p .0) (p .1) ∙ p .2)
+            where
+              last : p .0 ≡ depth - 1 → z ≡ x
+              last q = sym (p .2) ∙ ap (onPath N w) q ∙ end
+
+              before : p .0 < depth - 1
+              before = go (ℕ-discrete (p .0) (depth - 1))
+                where
+                  go : Dec (p .0 ≡ depth - 1) → p .0 < depth - 1
+                  go (yes q) = absurd (e (last q))
+                  go (no q) = omega (arith, p .1)
+
+  -- The way at the mark leads to a finished number: the number at the end of the path has looked at one way more.
+  pub advance : (x i : ℕ) → 0 < depth → onPath N w (depth - 1) ≡ x → mark w x ≡ i + 1 → i < N .count x → Safe N (N .next x i)
+      → Moved N w (set w x (mark w x + 1)) depth
+  advance x i some end looked more sure =
+      record {
+        search = record {
+          room = omega (arith, S .room, R .long);
+          few = omega (arith, S .few, raised-begun R (omega arith));
+          bounded = bounded′ S within R (omega arith);
+          seen = seen′ S within R (λ j h e b. subst (λ (k : ℕ). Safe N (N .next x k)) (omega arith) sure);
+          inside = inside′ S within R;
+          begun = begun′ S within R;
+          unfinished = λ k h. unfinished′ k h (ℕ-discrete (onPath N w k) x);
+          linked = linked′ S within R;
+          distinct = distinct′ S within R;
+          whole = λ z h b u. whole′ z h b u (ℕ-discrete z x);
+        };
+        grown = raised-grown R;
+        less = raised-less R (omega arith);
+      }
+    where
+      w′ : List ℕ
+      w′ = set w x (mark w x + 1)
+
+      within : depth ≤ depth
+      within = omega arith
+
+      inside : x < N .size
+      inside = omega (arith, S .inside (depth - 1) (omega arith))
+
+      R : Raised N depth x w w′
+      R = raised-mark N depth x w inside (S .room)
+
+      unfinished′ : (k : ℕ) → k < depth → Dec (onPath N w k ≡ x) → mark w′ (onPath N w′ k) ≤ N .count (onPath N w′ k) + 1
+      unfinished′ k h (yes e) =
+          let here : onPath N w′ k ≡ x = R .path k h ∙ e in
+          omega (arith, R .one, ap (mark w′) here, ap (N .count) here)
+      unfinished′ k h (no e) =
+          omega (arith, marks-on-path S within R k h e, S .unfinished k h, ap (N .count) (R .path k h))
+
+      still : {z : ℕ} → (k : ℕ) × (k < depth) × (onPath N w k ≡ z) → (k : ℕ) × (k < depth) × (onPath N w′ k ≡ z)
+      still p = (p .0, p .1, R .path (p .0) (p .1) ∙ p .2)
+
+      whole′ : (z : ℕ) → z < N .size → 0 < mark w′ z → mark w′ z ≤ N .count z + 1 → Dec (z ≡ x)
+          → (k : ℕ) × (k < depth) × (onPath N w′ k ≡ z)
+      whole′ z h b u (yes e) = still (depth - 1, omega arith, end ∙ sym e)
+      whole′ z h b u (no e) = still (S .whole z h (omega (arith, R .others z h e)) (omega (arith, R .others z h e)))
+
+  -- the path has room for a new number
+  pub path-room : (y : ℕ) → y < N .size → mark w y ≡ 0 → depth < N .size
+  path-room y inside new = omega (arith, total-part (λ x m. 1 - m) w y (N .size) inside, S .few)
+
+  -- A new number, to which the end of the path leads if there is one, is begun.
+  pub begin : (y : ℕ) → y < N .size → mark w y ≡ 0 → (0 < depth → Way N (onPath N w (depth - 1)) y)
+      → Moved N w (set (set w y 1) (N .size + depth) y) (depth + 1)
+  begin y inside new way =
+      record {
+        search = record {
+          room = omega (arith, S .room, R .long);
+          few = omega (arith, S .few, raised-new R new);
+          bounded = bounded′ S within R (omega arith);
+          seen = seen′ S within R (λ i h e b. absurd (omega arith));
+          inside = λ k h. inside″ k (decLt k depth) h;
+          begun = λ k h. begun″ k (decLt k depth) h;
+          unfinished = λ k h. unfinished″ k (decLt k depth) h;
+          linked = λ k h. linked″ k (decLt (k + 1) depth) h;
+          distinct = λ j k h i e. distinct″ j k h i e (decLt k depth);
+          whole = λ z h b u. whole″ z h b u (ℕ-discrete z y);
+        };
+        grown = raised-grown R;
+        less = raised-less R (omega arith);
+      }
+    where
+      w′ : List ℕ
+      w′ = set (set w y 1) (N .size + depth) y
+
+      within : depth ≤ depth
+      within = omega arith
+
+      R : Raised N depth y w w′
+      R = raised-push N depth y w inside (S .room) (path-room y inside new) new
+
+      last : onPath N w′ depth ≡ y
+      last = pushed N depth y w inside (S .room) (path-room y inside new)
+
+      at-last : (k : ℕ) → (k < depth → ⊥) → k < depth + 1 → onPath N w′ k ≡ y
+      at-last k n h = ap (onPath N w′) (omega arith) ∙ last
+
+      other : (k : ℕ) → k < depth → onPath N w k ≡ y → ⊥
+      other k h e = omega (arith, S .begun k h, ap (mark w) e)
+
+      inside″ : (k : ℕ) → Dec (k < depth) → k < depth + 1 → onPath N w′ k < N .size
+      inside″ k (yes l) h = inside′ S within R k l
+      inside″ k (no l) h = omega (arith, at-last k l h)
+
+      begun″ : (k : ℕ) → Dec (k < depth) → k < depth + 1 → 0 < mark w′ (onPath N w′ k)
+      begun″ k (yes l) h = begun′ S within R k l
+      begun″ k (no l) h = omega (arith, ap (mark w′) (at-last k l h), R .one)
+
+      unfinished″ : (k : ℕ) → Dec (k < depth) → k < depth + 1 → mark w′ (onPath N w′ k) ≤ N .count (onPath N w′ k) + 1
+      unfinished″ k (yes l) h =
+          omega (arith, marks-on-path S within R k l (other k l), S .unfinished k l, ap (N .count) (R .path k l))
+      unfinished″ k (no l) h = omega (arith, ap (mark w′) (at-last k l h), R .one)
+
+      linked″ : (k : ℕ) → Dec (k + 1 < depth) → k + 1 < depth + 1 → Way N (onPath N w′ k) (onPath N w′ (k + 1))
+      linked″ k (yes l) h = linked′ S within R k l
+      linked″ k (no l) h =
+          way-at N (R .path k (omega arith) ∙ ap (onPath N w) (omega arith)) (at-last (k + 1) l h) (way (omega arith))
+
+      distinct″ : (j k : ℕ) → j < k → k < depth + 1 → onPath N w′ j ≡ onPath N w′ k → Dec (k < depth) → ⊥
+      distinct″ j k h i e (yes l) = distinct′ S within R j k h l e
+      distinct″ j k h i e (no l) = other j (omega arith) (sym (R .path j (omega arith)) ∙ e ∙ at-last k l i)
+
+      whole″ : (z : ℕ) → z < N .size → 0 < mark w′ z → mark w′ z ≤ N .count z + 1 → Dec (z ≡ y)
+          → (k : ℕ) × (k < depth + 1) × (onPath N w′ k ≡ z)
+      whole″ z h b u (yes e) = (depth, omega arith, last ∙ sym e)
+      whole″ z h b u (no e) = longer (S .whole z h (omega (arith, R .others z h e)) (omega (arith, R .others z h e)))
+        where
+          longer : (k : ℕ) × (k < depth) × (onPath N w k ≡ z) → (k : ℕ) × (k < depth + 1) × (onPath N w′ k ≡ z)
+          longer p = (p .0, omega (arith, p .1), R .path (p .0) (p .1) ∙ p .2)

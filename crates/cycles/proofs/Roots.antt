@@ -1,0 +1,132 @@
+-- The search from one root and from every name, put together from looks: a look's answer by its two cases (`looked-cycle`,
+-- `looked-path`), the root on the path (`rooted`, `root-begun`), what a visit says by its answer (`visited`, `visit-found`,
+-- `visit-passed`), and the names visited so far (`Swept`). Assumes nothing.
+use mathlib.Core.Path.{_≡_, refl, sym, ap, _∙_, subst}
+use mathlib.Core.Bool.{Bool, true, false}
+use mathlib.Core.List.{List, _++_}
+use Prim.Native.Nat.{ℕ, _+_, _-_, _*_, _≤_, _<_}
+use native.Mathlib.Decide.{ℕ-discrete}
+use native.Mathlib.Omega.{arith}
+use lib.ListN.{length, getD, set, drop, replicate, length-replicate, getD-replicate, List·getD-append}
+use lib.Seq.{drop-at}
+use Rattle.graphs.specs.Partition.{entry}
+use Rattle.cycles.specs.declared.path.Turn.{Turn}
+use Rattle.cycles.specs.Net.{Net, Way, Returns, netOf, Searchable}
+use Rattle.cycles.specs.Marks.{Ready, mark, onPath, Search, Grown, Moved, Stopped, Ended, Looked, Rooted, Visited, Told}
+use Rattle.cycles.proofs.Stores.{pushed, grown-none, grown-join}
+use Rattle.cycles.proofs.Moves.{begin, path-room}
+use Rattle.cycles.proofs.Answers.{start, none}
+
+-- ---- one root
+
+module _ (N : Net) {before after : List ℕ} where
+  pub looked-cycle : {turn : Turn} → Looked N before after turn → turn ≡ Turn.Cycle → Stopped N before after
+  looked-cycle looked e = subst (Looked N before after) e looked
+
+  pub looked-path : {turn : Turn} {depth : ℕ} → Looked N before after turn → turn ≡ Turn.Path depth → Moved N before after depth
+  looked-path looked e = subst (Looked N before after) e looked
+
+pub stopped-later : {N : Net} {u v w : List ℕ} → Grown N u v → Stopped N v w → Stopped N u w
+stopped-later g s = record { cycle = s .cycle; behind = s .behind ∙ g .behind }
+
+module _ {N : Net} {w w′ : List ℕ} {root : ℕ} (S : Search N w 0) (inside : root < N .size) (fresh : mark w root ≡ 0)
+    (stored : w′ ≡ set (set w root 1) (N .size + 0) root) where
+  pub rooted : Moved N w w′ 1
+  rooted = subst (λ (v : List ℕ). Moved N w v 1) (sym stored) (begin S root inside fresh (λ some. absurd (omega arith)))
+
+  pub root-begun : 0 < mark w′ root
+  root-begun =
+      let end : onPath N w′ 0 ≡ root = ap (λ (v : List ℕ). onPath N v 0) stored ∙ pushed N 0 root w inside (S .room) (path-room S root inside fresh) in
+      omega (arith, rooted .search .begun 0 (omega arith), ap (mark w′) end)
+
+  -- the path is empty again
+  pub ended : {w″ : List ℕ} {depth : ℕ} → Search N w″ depth → Grown N w′ w″ → depth ≤ 0 → Ended N w w″ (0 < mark w″ root)
+  ended {w″} {depth} T g empty =
+      record {
+        search = subst (Search N w″) (omega arith) T;
+        grown = grown-join (rooted .grown) g;
+        holds = omega (arith, root-begun, g .marks root inside);
+      }
+
+-- ---- every name
+
+pub visited : (N : Net) (row before after : List ℕ) (x : ℕ) (found : Bool) → Rooted N before after x found → Visited N row before after x found
+visited N row before after x true stopped = stopped
+visited N row before after x false ended = record { search = ended .search; grown = ended .grown; holds = λ own. ended .holds }
+
+-- All names below x are begun, and no cycle was found from them.
+pub record Swept (N : Net) (row before work : List ℕ) (x : ℕ) : Type 0 where
+  pub search : Search N work 0
+  pub grown : Grown N before work
+  pub within : x ≤ N .size
+  pub begun : (z : ℕ) → z < x → entry row z ≡ z → 0 < mark work z
+
+pub swept-none : {N : Net} {row work : List ℕ} → Search N work 0 → Swept N row work work 0
+swept-none S = record { search = S; grown = grown-none; within = omega arith; begun = λ z h own. absurd (omega arith) }
+
+module _ {N : Net} {row before work after : List ℕ} {x : ℕ} {found : Bool} (swept : Swept N row before work x) (inside : x < N .size)
+    (visit : Visited N row work after x found) where
+  pub visit-found : found ≡ true → Told N before after true
+  visit-found e =
+      let stopped : Stopped N before after = stopped-later (swept .grown) (subst (Visited N row work after x) e visit) in
+      record { truth = stopped .cycle; behind = stopped .behind }
+
+  pub visit-passed : found ≡ false → Swept N row before after (x + 1)
+  visit-passed e =
+      record {
+        search = ended .search;
+        grown = grown-join (swept .grown) (ended .grown);
+        within = omega arith;
+        begun = λ z h own. go z h own (ℕ-discrete z x);
+      }
+    where
+      ended : Ended N work after (entry row x ≡ x → 0 < mark after x)
+      ended = subst (Visited N row work after x) e visit
+
+      go : (z : ℕ) → z < x + 1 → entry row z ≡ z → Dec (z ≡ x) → 0 < mark after z
+      go z h own (yes p) = omega (arith, ended .holds (sym (ap (entry row) p) ∙ own ∙ p), ap (mark after) p)
+      go z h own (no p) = omega (arith, swept .begun z (omega arith) own, ended .grown .marks z (omega arith))
+
+-- Ways lead to names alone: with all names begun nothing is left to find.
+pub swept-all : {t row before work : List ℕ} {x : ℕ} → Ready t row → Swept (netOf t row) row before work x → length t ≤ x
+    → Told (netOf t row) before work false
+swept-all {t} {row} {before} {work} {x} ready swept all =
+    record {
+      truth = none (swept .search) inside (λ y z way. swept .begun z (omega (arith, inside y z way)) (named y z way));
+      behind = swept .grown .behind;
+    }
+  where
+    inside : (y z : ℕ) → Way (netOf t row) y z → z < length t
+    inside y z way = omega (arith, ready .name-inside y (way .0) (way .1), way .2)
+
+    named : (y z : ℕ) → Way (netOf t row) y z → entry row z ≡ z
+    named y z way = subst (λ (u : ℕ). entry row u ≡ u) (way .2) (ready .name-own y (way .0) (way .1))
+
+-- ---- the whole
+
+module _ {t row : List ℕ} (work : List ℕ) (asked : Searchable t row (length work)) where
+  pub ready : Ready t row
+  ready =
+      record {
+        small = asked .small;
+        laid = asked .laid;
+        counts = asked .counts;
+        row-room = asked .row-room;
+        work-enough = omega arith;
+        child-inside = asked .child-inside;
+        name-inside = asked .name-inside;
+        name-own = asked .name-own;
+      }
+
+  -- after the first clearing
+  pub started : {work′ : List ℕ} → work′ ≡ replicate (2 * length t) 0 ++ drop (2 * length t) work → length work′ ≡ length work → Search (netOf t row) work′ 0
+  started {work′} cleared long =
+      start (netOf t row) work′ (omega (arith, asked .work-enough))
+      (λ x h.
+      ap (λ (v : List ℕ). getD v x 0) cleared
+      ∙ List·getD-append (replicate (2 * length t) 0) (drop (2 * length t) work) 0 x (omega (arith, length-replicate {A = ℕ} (2 * length t) 0))
+      ∙ getD-replicate (2 * length t) x 0 0 (omega arith))
+
+-- a clearing leaves what is behind it
+pub cleared-behind : (n : ℕ) (work : List ℕ) {work′ : List ℕ} → work′ ≡ replicate n 0 ++ drop n work → drop n work′ ≡ drop n work
+cleared-behind n work cleared = ap (drop n) cleared ∙ drop-at (replicate n 0) (drop n work) n (length-replicate n 0)

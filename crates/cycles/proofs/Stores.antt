@@ -1,0 +1,82 @@
+-- One mark raised by one: what every move of the search does to the work row. `Raised` says it, `raised-mark` and
+-- `raised-push` show it of the two ways to store, and `grown` and `less` have what it does to all marks. Assumes nothing.
+use mathlib.Core.Path.{_≡_, refl, sym, ap, _∙_, subst}
+use mathlib.Core.Logic.{_⊎_, inl, inr, ⊎-elim}
+use mathlib.Core.List.{List}
+use Prim.Native.Nat.{ℕ, zero, suc, _+_, _-_, _*_, _≤_, _<_}
+use native.Mathlib.Decide.{ℕ-discrete}
+use native.Mathlib.Omega.{arith}
+use lib.ListN.{length, getD, set, drop, length-set}
+use lib.Seq.{getD-set-same, getD-set-other, drop-set-lt}
+use Rattle.cycles.specs.Net.{Net}
+use Rattle.cycles.specs.Marks.{mark, onPath, total, left, news, Grown}
+use Rattle.cycles.proofs.Totals.{total-one}
+
+-- The mark of x was raised by one. The other marks, the path below `depth` and what is behind it are as they were.
+pub record Raised (N : Net) (depth x : ℕ) (before after : List ℕ) : Type 0 where
+  pub inside : x < N .size
+  pub one : mark after x ≡ mark before x + 1
+  pub others : (z : ℕ) → z < N .size → (z ≡ x → ⊥) → mark after z ≡ mark before z
+  pub path : (k : ℕ) → k < depth → onPath N after k ≡ onPath N before k
+  pub behind : drop (2 * N .size) after ≡ drop (2 * N .size) before
+  pub long : length after ≡ length before
+
+pub grown-none : {N : Net} {w : List ℕ} → Grown N w w
+grown-none = record { long = refl; marks = λ x h. omega arith; behind = refl }
+
+pub grown-join : {N : Net} {u v w : List ℕ} → Grown N u v → Grown N v w → Grown N u w
+grown-join g h =
+    record {
+      long = h .long ∙ g .long;
+      marks = λ x i. omega (arith, g .marks x i, h .marks x i);
+      behind = h .behind ∙ g .behind;
+    }
+
+module _ (N : Net) (depth x : ℕ) (w : List ℕ) (inside : x < N .size) (room : 2 * N .size ≤ length w) where
+  -- the mark alone is stored
+  pub raised-mark : Raised N depth x w (set w x (mark w x + 1))
+  raised-mark =
+      record {
+        inside = inside;
+        one = getD-set-same w x (mark w x + 1) 0 (omega arith);
+        others = λ z h other. getD-set-other w x z (mark w x + 1) 0 other;
+        path = λ k h. getD-set-other w x (N .size + k) (mark w x + 1) 0 (λ e. omega arith);
+        behind = drop-set-lt (2 * N .size) w x (mark w x + 1) (omega arith);
+        long = length-set w x (mark w x + 1);
+      }
+
+  -- the mark of a new number is stored, and the number on the path
+  pub raised-push : depth < N .size → mark w x ≡ 0 → Raised N depth x w (set (set w x 1) (N .size + depth) x)
+  raised-push deep new =
+      let w′ : List ℕ = set w x 1 in
+      let w″ : List ℕ = set w′ (N .size + depth) x in
+      let first : mark w′ x ≡ 1 = getD-set-same w x 1 0 (omega arith) in
+      let kept : mark w″ x ≡ mark w′ x = getD-set-other w′ (N .size + depth) x x 0 (λ e. omega arith) in
+      record {
+        inside = inside;
+        one = kept ∙ first ∙ omega arith;
+        others = λ z h other. getD-set-other w′ (N .size + depth) z x 0 (λ e. omega arith) ∙ getD-set-other w x z 1 0 other;
+        path = λ k h. getD-set-other w′ (N .size + depth) (N .size + k) x 0 (λ e. omega arith) ∙ getD-set-other w x (N .size + k) 1 0 (λ e. omega arith);
+        behind = drop-set-lt (2 * N .size) w′ (N .size + depth) x (omega arith) ∙ drop-set-lt (2 * N .size) w x 1 (omega arith);
+        long = length-set w′ (N .size + depth) x ∙ length-set w x 1;
+      }
+
+  pub pushed : depth < N .size → onPath N (set (set w x 1) (N .size + depth) x) depth ≡ x
+  pushed deep = getD-set-same (set w x 1) (N .size + depth) x 0 (omega (arith, length-set w x 1))
+
+module _ {N : Net} {depth x : ℕ} {w w′ : List ℕ} (R : Raised N depth x w w′) where
+  pub raised-grown : Grown N w w′
+  raised-grown = record { long = R .long; marks = λ z h. go z h (ℕ-discrete z x); behind = R .behind }
+    where
+      go : (z : ℕ) → z < N .size → Dec (z ≡ x) → mark w z ≤ mark w′ z
+      go z h (yes e) = omega (arith, R .one, ap (mark w) e, ap (mark w′) e)
+      go z h (no e) = omega (arith, R .others z h e)
+
+  pub raised-less : mark w x < N .count x + 2 → left N w′ < left N w
+  raised-less h = omega (arith, total-one (λ y m. N .count y + 2 - m) w w′ x (N .size) (R .inside) (R .others), R .one)
+
+  pub raised-begun : 0 < mark w x → news N w′ ≡ news N w
+  raised-begun h = omega (arith, total-one (λ y m. 1 - m) w w′ x (N .size) (R .inside) (R .others), R .one)
+
+  pub raised-new : mark w x ≡ 0 → news N w′ + 1 ≡ news N w
+  raised-new h = omega (arith, total-one (λ y m. 1 - m) w w′ x (N .size) (R .inside) (R .others), R .one)

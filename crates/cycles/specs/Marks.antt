@@ -1,0 +1,107 @@
+-- What the steps of the search promise each other. The work row holds a mark for each number of the net, and behind the marks
+-- the path, from the root of the search down to the number in hand. A mark is 0 for a new number; 1 + the ways looked at, while
+-- the number is on the path; and the count of its ways + 2 once it is finished. For this crate alone. Assumes nothing.
+use mathlib.Core.Path.{_≡_}
+use mathlib.Core.Bool.{Bool, true, false}
+use mathlib.Core.List.{List}
+use Prim.Native.Nat.{ℕ, zero, suc, _+_, _-_, _*_, _≤_, _<_}
+use lib.ListN.{length, getD, drop}
+use Rattle.graphs.specs.Partition.{entry}
+use Rattle.cycles.specs.Net.{Net, Way, Returns, Searchable}
+use Rattle.cycles.specs.declared.path.Turn.{Turn}
+
+-- What the steps ask of table and class row. Of the work row `Search` says enough.
+abbrev pub Ready : List ℕ → List ℕ → Type 0
+Ready t row = Searchable t row (2 * length t)
+
+-- the mark of x
+abbrev pub mark : List ℕ → ℕ → ℕ
+mark work x = getD work x 0
+
+-- the number on the path at depth k, from 0
+abbrev pub onPath : Net → List ℕ → ℕ → ℕ
+onPath N work k = getD work (N .size + k) 0
+
+-- Every walk from x ends.
+pub data Safe (N : Net) : ℕ → Type 0 where
+  safe : {x : ℕ} → ((y : ℕ) → Way N x y → Safe N y) → Safe N x
+
+-- a sum over the marks of the numbers below k
+unfoldable pub total : (ℕ → ℕ → ℕ) → List ℕ → ℕ → ℕ
+total f work zero = 0
+total f work (suc k) = f k (mark work k) + total f work k
+
+-- how many numbers are new
+abbrev pub news : Net → List ℕ → ℕ
+news N work = total (λ x m. 1 - m) work (N .size)
+
+-- how often a mark can still be raised
+abbrev pub left : Net → List ℕ → ℕ
+left N work = total (λ x m. N .count x + 2 - m) work (N .size)
+
+-- The search with `depth` numbers on the path.
+pub record Search (N : Net) (work : List ℕ) (depth : ℕ) : Type 0 where
+  pub room : 2 * N .size ≤ length work
+  -- new numbers and those on the path are different ones
+  pub few : news N work + depth ≤ N .size
+  pub bounded : (x : ℕ) → x < N .size → mark work x ≤ N .count x + 2
+  -- the ways looked at lead to numbers from which every walk ends
+  pub seen : (x i : ℕ) → x < N .size → i < N .count x → i + 1 < mark work x → Safe N (N .next x i)
+  pub inside : (k : ℕ) → k < depth → onPath N work k < N .size
+  pub begun : (k : ℕ) → k < depth → 0 < mark work (onPath N work k)
+  pub unfinished : (k : ℕ) → k < depth → mark work (onPath N work k) ≤ N .count (onPath N work k) + 1
+  pub linked : (k : ℕ) → k + 1 < depth → Way N (onPath N work k) (onPath N work (k + 1))
+  pub distinct : (j k : ℕ) → j < k → k < depth → onPath N work j ≡ onPath N work k → ⊥
+  -- a number that is begun and not finished is on the path
+  pub whole : (x : ℕ) → x < N .size → 0 < mark work x → mark work x ≤ N .count x + 1 → (k : ℕ) × (k < depth) × (onPath N work k ≡ x)
+
+-- From `before` to `after` no mark fell, and nothing changed behind marks and path.
+pub record Grown (N : Net) (before after : List ℕ) : Type 0 where
+  pub long : length after ≡ length before
+  pub marks : (x : ℕ) → x < N .size → mark before x ≤ mark after x
+  pub behind : drop (2 * N .size) after ≡ drop (2 * N .size) before
+
+-- The search went on and has `depth` numbers on the path.
+pub record Moved (N : Net) (before after : List ℕ) (depth : ℕ) : Type 0 where
+  pub search : Search N after depth
+  pub grown : Grown N before after
+  pub less : left N after < left N before
+
+-- The search found a cycle.
+pub record Stopped (N : Net) (before after : List ℕ) : Type 0 where
+  pub cycle : Returns true N
+  pub behind : drop (2 * N .size) after ≡ drop (2 * N .size) before
+
+-- The search came back to an empty path, and P holds.
+pub record Ended (N : Net) (before after : List ℕ) (P : Type 0) : Type 0 where
+  pub search : Search N after 0
+  pub grown : Grown N before after
+  pub holds : P
+
+-- What one look does: it found a cycle, or went on.
+abbrev pub Looked : Net → List ℕ → List ℕ → Turn → Type 0
+Looked N before after Turn.Cycle = Stopped N before after
+Looked N before after (Turn.Path depth) = Moved N before after depth
+
+-- The search has x at the end of its path, and of x's ways the one at place i is the next to be looked at.
+pub record Facing (N : Net) (work : List ℕ) (depth x i : ℕ) : Type 0 where
+  pub search : Search N work depth
+  pub some : 0 < depth
+  pub end : onPath N work (depth - 1) ≡ x
+  pub looked : mark work x ≡ i + 1
+  pub more : i < N .count x
+
+-- What the search from one root does: it found a cycle, or all that it began is finished.
+abbrev pub Rooted : Net → List ℕ → List ℕ → ℕ → Bool → Type 0
+Rooted N before after root true = Stopped N before after
+Rooted N before after root false = Ended N before after (0 < mark after root)
+
+-- What a visit of x does: the same, but x is passed over where it is not the name of its class.
+abbrev pub Visited : Net → List ℕ → List ℕ → List ℕ → ℕ → Bool → Type 0
+Visited N row before after x true = Stopped N before after
+Visited N row before after x false = Ended N before after (entry row x ≡ x → 0 < mark after x)
+
+-- What the search from every name does.
+pub record Told (N : Net) (before after : List ℕ) (answer : Bool) : Type 0 where
+  pub truth : Returns answer N
+  pub behind : drop (2 * N .size) after ≡ drop (2 * N .size) before

@@ -1,0 +1,49 @@
+// The rows and the net, in numbers of one width.
+ghost use mathlib.Core.Path.{_≡_};
+ghost use Prim.Native.Nat.{_+_, _<_, _≤_};
+ghost use lib.ListN.{length, getD, set};
+ghost use Rattle.graphs.specs.Partition.{entry};
+ghost use Rattle.table.specs.Table.{degree, childOf, Laid};
+use table::node;
+use words::numbers::Address;
+
+// The entry of a row at i.
+pub fn at(row: &[u16], i: usize) -> usize
+    requires { ⌜ i < length (now row) ⌝ }
+    ensures { λ r. ⌜ r ≡ getD (now (row .entry)) i 0 ⌝ }
+{
+    row[i] as usize
+}
+
+// Sets the entry of a row at i.
+pub fn put(row: &mut [u16], i: usize, v: usize)
+    requires { ⌜ (i < length (now row)) × (v < 65536) ⌝ }
+    ensures { λ _. ⌜ now (row .exit) ≡ set (now (row .entry)) i v ⌝ }
+{
+    row[i] = v as u16;
+}
+
+// Raises the entry of a row at i by one.
+pub fn raise(row: &mut [u16], i: usize)
+    requires { ⌜ (i < length (now row)) × (getD (now row) i 0 < 65535) ⌝ }
+    ensures { λ _. ⌜ now (row .exit) ≡ set (now (row .entry)) i (getD (now (row .entry)) i 0 + 1) ⌝ }
+{
+    put(row, i, at(row, i) + 1);
+}
+
+// How many ways lead from x.
+pub fn ways(table: &[u32], x: usize) -> usize
+    requires { ⌜ Laid (now table) × (length (now table) ≤ 4096) × (x < length (now table)) ⌝ }
+    ensures { λ r. ⌜ r ≡ degree (now (table .entry)) x ⌝ }
+{
+    node::degree(table, Address(x as u16)) as usize
+}
+
+// Where the i-th way from x leads: to the name of the class of x's child at place i.
+pub fn next(table: &[u32], class: &[u16], x: usize, i: usize) -> usize
+    requires { ⌜ Laid (now table) × (length (now table) ≤ 4096) × (i < degree (now table) x) × (childOf (now table) x i < length (now class)) × (x < 4096) × (i < 256) ⌝ }
+    ensures { λ r. ⌜ r ≡ entry (now (class .entry)) (childOf (now (table .entry)) x i) ⌝ }
+{
+    let child = node::child(table, Address(x as u16), i as u16);
+    at(class, child.0 as usize)
+}

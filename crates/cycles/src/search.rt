@@ -1,0 +1,70 @@
+// The search from one root, from every name, and the whole.
+ghost use mathlib.Core.Path.{_≡_};
+ghost use Prim.Native.Nat.{_<_};
+ghost use lib.ListN.{length};
+ghost use Rattle.cycles.specs.Net.{netOf, Searchable, Searched};
+ghost use Rattle.cycles.specs.Marks.{Ready, Search, Rooted, Visited, Told, mark};
+use crate::path;
+use crate::path::Turn;
+use crate::reads;
+
+// Whether a cycle is found from a new number. If not, all that can be reached from it is finished.
+fn from_root(table: &[u32], class: &[u16], work: &mut [u16], root: usize) -> bool
+    requires { ⌜ Ready (now table) (now class) × Search (netOf (now table) (now class)) (now work) 0 × (root < length (now table)) × (mark (now work) root ≡ 0) ⌝ }
+    ensures { λ r. ⌜ Rooted (netOf (now (table .entry)) (now (class .entry))) (now (work .entry)) (now (work .exit)) root r ⌝ }
+{
+    path::push(work, table.len(), 0, root);
+    let mut depth = 1;
+    while 0 < depth {
+        let Turn::Path(deep) = path::look(table, class, work, depth) else {
+            return true;
+        };
+        depth = deep;
+    }
+    false
+}
+
+// The search from x, if x is the name of its class and is new. Ways lead to names alone, so no cycle
+// passes through any other number.
+fn visit(table: &[u32], class: &[u16], work: &mut [u16], x: usize) -> bool
+    requires { ⌜ Ready (now table) (now class) × Search (netOf (now table) (now class)) (now work) 0 × (x < length (now table)) ⌝ }
+    ensures { λ r. ⌜ Visited (netOf (now (table .entry)) (now (class .entry))) (now (class .entry)) (now (work .entry)) (now (work .exit)) x r ⌝ }
+{
+    if reads::at(class, x) != x {
+        return false;
+    }
+    if reads::at(work, x) != 0 {
+        return false;
+    }
+    from_root(table, class, work, x)
+}
+
+// The search from every name, with all marks at 0.
+fn from_each(table: &[u32], class: &[u16], work: &mut [u16]) -> bool
+    requires { ⌜ Ready (now table) (now class) × Search (netOf (now table) (now class)) (now work) 0 ⌝ }
+    ensures { λ r. ⌜ Told (netOf (now (table .entry)) (now (class .entry))) (now (work .entry)) (now (work .exit)) r ⌝ }
+{
+    let mut x = 0;
+    while x < table.len() {
+        if visit(table, class, work, x) {
+            return true;
+        }
+        x += 1;
+    }
+    false
+}
+
+// Whether some class of the table reaches itself through children. An entry of class is the name of
+// its node's class; with every node its own class, a cycle is a loop of the table.
+//
+// The first 2n entries of work are used, n being the number of words. What they held does not count,
+// and on return they are 0. The entries after them stay.
+pub fn reaches_itself(table: &[u32], class: &[u16], work: &mut [u16]) -> bool
+    requires { ⌜ Searchable (now table) (now class) (length (now work)) ⌝ }
+    ensures { λ r. ⌜ Searched (now (table .entry)) (now (class .entry)) (now (work .entry)) r (now (work .exit)) ⌝ }
+{
+    rows::clear16(work, 2 * table.len()); // old contents never count
+    let found = from_each(table, class, work);
+    rows::clear16(work, 2 * table.len()); // and none are left
+    found
+}
