@@ -10,6 +10,7 @@ use std::path::{Path, PathBuf};
 
 pub mod ground;
 pub mod names;
+pub mod table;
 pub mod trace;
 
 /// The root of the repository.

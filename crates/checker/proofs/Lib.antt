@@ -1,5 +1,10 @@
+-- Laws of the scans, the stages of the check, and the whole.
+pub mod ChainLaws
+pub mod CheckLaws
 pub mod LayoutLaws
 pub mod LoopLaws
+pub mod NameLaws
+pub mod OneCheck
 pub mod Search
 pub mod Stages
 pub mod WordLaws

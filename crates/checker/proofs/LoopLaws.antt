@@ -46,16 +46,16 @@ module _ (t row rest : List ℕ) (own : row ≡ counting 0 (length t) ++ rest) w
 
     pub own-searchable : (work-room : ℕ) → length t ≤ 4096 → 2 * length t ≤ work-room → Searchable t row work-room
     own-searchable work-room small enough =
-        record
-          { small = small
-          ; laid = shaped-laid shaped
-          ; counts = shaped-degree shaped
-          ; row-room = omega (arith, ap length own, length-append (counting 0 (length t)) rest, counting-length 0 (length t))
-          ; work-enough = enough
-          ; child-inside = child-below
-          ; name-inside = λ x i h. omega (arith, own-child x i h, child-below x i h)
-          ; name-own = λ x i h. ap (entry row) (own-child x i h)
-          }
+        record {
+          small = small;
+          laid = shaped-laid shaped;
+          counts = shaped-degree shaped;
+          row-room = omega (arith, ap length own, length-append (counting 0 (length t)) rest, counting-length 0 (length t));
+          work-enough = enough;
+          child-inside = child-below;
+          name-inside = λ x i h. omega (arith, own-child x i h, child-below x i h);
+          name-own = λ x i h. ap (entry row) (own-child x i h);
+        }
 
     way-child : (x y : ℕ) → Way (netOf t row) x y → Child (graphOf t) x y
     way-child x y (i, h, e) = subst (Child (graphOf t) x) (sym (own-child x i h) ∙ e) (degree-child t x i h)
@@ -89,13 +89,13 @@ kept-behind front row k m e h =
 pub loop-search : {t class work class-after work-after : List ℕ} {found : Bool} → Roomy t class work → Shaped t
     → class-after ≡ counting 0 (length t) ++ drop (length t) class → Searched t class-after work found work-after → LoopSearch t class work found class-after work-after
 loop-search {t} {class} {work} {class-after} {work-after} {found} roomy shaped own searched =
-    record
-      { truth = loops-found t class-after (drop (length t) class) own shaped found (searched .truth)
-      ; kept =
-          record
-            { class-kept = ap (drop (length t)) own ∙ kept-behind (counting 0 (length t)) class (length t) (length t) (counting-length 0 (length t)) (omega arith)
-            ; work-kept =
+    record {
+      truth = loops-found t class-after (drop (length t) class) own shaped found (searched .truth);
+      kept =
+          record {
+            class-kept = ap (drop (length t)) own ∙ kept-behind (counting 0 (length t)) class (length t) (length t) (counting-length 0 (length t)) (omega arith);
+            work-kept =
                 ap (drop (4 * length t)) (searched .cleared)
-                ∙ kept-behind (replicate (2 * length t) 0) work (2 * length t) (4 * length t) (length-replicate (2 * length t) 0) (omega arith)
-            }
-      }
+                ∙ kept-behind (replicate (2 * length t) 0) work (2 * length t) (4 * length t) (length-replicate (2 * length t) 0) (omega arith);
+          };
+    }

@@ -29,7 +29,7 @@ fn is_item(kind: Kind) -> bool
         Kind::Constant => true,
         Kind::Function => true,
         Kind::Pointer => false,
-        Kind::Count => false,
+        Kind::Count => false, // it stands after a function
         Kind::NoWord => false,
     }
 }

@@ -1,1 +1,2 @@
 pub mod Ground
+pub mod Tables

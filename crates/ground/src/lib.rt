@@ -1,5 +1,7 @@
-// What `words` says of one word and of two heads, in plain numbers, for tests in another language to
-// call.
+// What `words` says of one word and of two heads, and the table check, in plain numbers, for tests in
+// another language to call.
+pub mod tables;
+
 ghost use mathlib.Core.Path.{_≡_};
 ghost use Rattle.words.specs.Word.{contentOf, kindOf};
 ghost use Rattle.ground.specs.Ground.{kindNumber, headAt, outcomeNumber, groundMeeting};

@@ -39,7 +39,7 @@ inside-kind t x test fails e = go (leb (length t) x) refl
     go true q = let k : kindAt t x ≡ NoWord = past-end t x (leb-true (length t) x q) in let f : test (kindAt t x) ≡ false = ap test k ∙ fails in never (cc)
 
 module _ {t : List ℕ} (c : Shaped t) where
-  word-0 : wordAt t 0 ≡ 0
+  pub word-0 : wordAt t 0 ≡ 0
   unfolding badLater
   word-0 = go (eqb (wordAt t 0) 0) refl
     where

@@ -32,7 +32,10 @@ can-stand-requires : tie.Need-can-stand-requires Inv-loop μ-loop
 can-stand-requires c κs = search needs
 
 returns : tie.Need-returns Inv-loop μ-loop
-returns c = scan-stops (c .before .before .before .before .before .loop .inv) (c .before .before .before .before .loop-test .taken) (c .before .before .kind .ensures) (c .before .can-stand .ensures) (not-true _ (c .if1 .taken))
+returns c =
+    let l : tie.At-loop Inv-loop μ-loop = search needs in
+    scan-stops (l .loop .inv) (c .before .before .before .before .loop-test .taken)
+    (c .before .before .kind .ensures) (c .before .can-stand .ensures) (not-true _ (c .if1 .taken))
 
 after-requires : tie.Need-after-requires Inv-loop μ-loop
 after-requires c κs = search needs
@@ -44,7 +47,10 @@ loop-less : tie.Need-loop-less Inv-loop μ-loop
 loop-less c = search needs
 
 loop-again : tie.Need-loop-again Inv-loop μ-loop
-loop-again c = scan-stands (c .before .before .before .before .before .before .loop .inv) (c .before .before .before .before .before .loop-test .taken) (c .before .before .before .kind .ensures) (c .before .before .can-stand .ensures) (not-false _ (c .before .if1 .left)) (c .after .ensures)
+loop-again c =
+    let l : tie.At-loop Inv-loop μ-loop = search needs in
+    scan-stands (l .loop .inv) (c .before .before .before .before .before .loop-test .taken)
+    (c .before .before .before .kind .ensures) (c .before .before .can-stand .ensures) (not-false _ (c .before .if1 .left)) (c .after .ensures)
 
 end-requires : tie.Need-end-requires Inv-loop μ-loop
 end-requires c κs = search needs

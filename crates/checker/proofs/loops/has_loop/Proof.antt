@@ -1,31 +1,24 @@
+-- `checker::loops::has_loop` meets its contract.
+-- Assumes nothing.
 use native.Mathlib.Omega.{arith}
+use borrow.Author.Needs.{needs}
 use lib.ListN.{drop, length}
 use Rattle.checker.proofs.LoopLaws.{own-searchable, loop-search}
-use borrow.Author.Needs.{needs}
 use Rattle.checker.proofs.loops.has_loop.Statement.{statement}
 use Rattle.checker.proofs.loops.has_loop.Tie as tie
-use Rattle.checker.proofs.loops.has_loop.Reads as reads
-use Rattle.checker.proofs.loops.has_loop.Lts as lts
-use Rattle.checker.proofs.loops.own_classes.Reads as own-classes-reads
-use Rattle.cycles.proofs.reaches_itself.Reads as reaches-itself-reads
 
--- src/loops.rt:26:5
 own-classes-requires : tie.Need-own-classes-requires
 own-classes-requires c κs = search needs
 
--- src/loops.rt:27:5
 reaches-itself-requires : tie.Need-reaches-itself-requires
 reaches-itself-requires c κs = own-searchable (c .before .before .before .before .before .before .before .before .before .args .table .now) (c .before .before .before .before .own-classes .last .0) (drop (length (c .before .before .before .before .before .before .before .before .before .args .table .now)) (c .before .before .before .before .before .before .before .before .before .args .class .now)) (c .before .before .before .before .own-classes .ensures) (c .before .before .before .before .before .before .before .before .before .pre .1) _ (c .before .before .before .before .before .before .before .before .before .pre .0 .small) (omega (arith, c .before .before .before .before .before .before .before .before .before .pre .0 .work-enough))
 
--- src/loops.rt:22:1
 same-length : tie.Need-same-length
 same-length c = search needs
 
--- src/loops.rt:22:1
 same-length-2 : tie.Need-same-length-2
 same-length-2 c = search needs
 
--- src/loops.rt:22:1
 returns : tie.Need-returns
 returns c = loop-search (c .before .before .before .before .before .before .before .before .before .before .before .before .pre .0) (c .before .before .before .before .before .before .before .before .before .before .before .before .pre .1) (c .before .before .before .before .before .before .before .own-classes .ensures) (c .before .before .reaches-itself .ensures)
 

@@ -1,14 +1,14 @@
-use mathlib.Core.Path.{_≡_}
-use lib.ListN.{getD}
+-- `checker::loops::own_classes` meets its contract.
+-- Assumes nothing.
 use Prim.Native.Nat.{_-_, _≤_}
+use mathlib.Core.Path.{_≡_}
 use native.Mathlib.Omega.{arith}
+use lib.ListN.{getD}
 use Rattle.rows.proofs.Laws.{Built, built-none, built-more, built-all}
 use Rattle.checker.specs.Stages.{counting}
 use Rattle.checker.proofs.LoopLaws.{counting-length, counting-at}
 use Rattle.checker.proofs.loops.own_classes.Statement.{statement}
 use Rattle.checker.proofs.loops.own_classes.Tie as tie
-use Rattle.checker.proofs.loops.own_classes.Reads as reads
-use Rattle.checker.proofs.loops.own_classes.Lts as lts
 
 abbrev Inv-loop : tie.InvT-loop
 Inv-loop class₀ n x₀ class x = Built (counting 0 n) class₀ n x class
@@ -16,39 +16,30 @@ Inv-loop class₀ n x₀ class x = Built (counting 0 n) class₀ n x class
 abbrev μ-loop : tie.MeasureT-loop
 μ-loop class₀ n x₀ class x = n - x
 
--- src/loops.rt:15:5
 loop-holds : tie.Need-loop-holds Inv-loop μ-loop
 loop-holds c = built-none (counting-length 0 (c .args .n)) (c .pre .0)
 
--- src/loops.rt:16:20
 cast-class : tie.Need-cast-class Inv-loop μ-loop
 cast-class c = omega arith
 
--- src/loops.rt:16:9
 mul-class : tie.Need-mul-class Inv-loop μ-loop
 mul-class c = omega arith
 
--- src/loops.rt:16:9
 slice-write-class : tie.Need-slice-write-class Inv-loop μ-loop
 slice-write-class c = omega arith
 
--- src/loops.rt:17:9
 add-x : tie.Need-add-x Inv-loop μ-loop
 add-x c = omega arith
 
--- src/loops.rt:15:5
 loop-less : tie.Need-loop-less Inv-loop μ-loop
 loop-less c = omega arith
 
--- src/loops.rt:15:5
 loop-again : tie.Need-loop-again Inv-loop μ-loop
 loop-again c = built-more _ (c .before .loop .inv) (c .loop-test .taken) (let e : c .before .loop .x ≡ getD (counting 0 (c .before .before .args .n)) (c .before .loop .x) 0 = omega (arith, counting-at 0 (c .before .before .args .n) (c .before .loop .x) (c .loop-test .taken)) in e)
 
--- src/loops.rt:10:1
 same-length : tie.Need-same-length Inv-loop μ-loop
 same-length c = c .before .loop .inv .same-length
 
--- src/loops.rt:10:1
 returns : tie.Need-returns Inv-loop μ-loop
 returns c = built-all (c .before .loop .inv) (c .loop-test .left)
 

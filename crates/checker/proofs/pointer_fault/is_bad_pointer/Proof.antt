@@ -51,7 +51,9 @@ unfolding badTarget
 returns-3 c = rw (sym (c .before .before .kind .ensures) ∙ c .enum-told3 .given .1)
 
 returns-4 : tie.Need-returns-4
-returns-4 c = rw (sym (c .before .before .before .before .kind .ensures) ∙ c .before .before .enum-told4 .given .1, ← (c .before .address .ensures)) (c .is-bad-target .ensures)
+returns-4 c =
+    rw (sym (c .before .before .before .before .kind .ensures) ∙ c .before .before .enum-told4 .given .1, ← (c .before .address .ensures))
+    (c .is-bad-target .ensures)
 
 returns-5 : tie.Need-returns-5
 unfolding badTarget

@@ -8,10 +8,14 @@ cast-at : tie.Need-cast-at
 cast-at c = search needs
 
 returns : tie.Need-returns
-returns c = target-nothing (c .before .before .before .args .table .now) (c .before .before .before .args .target .0) (c .if1 .taken)
+returns c =
+    let p : tie.Start = search needs in
+    target-nothing (p .args .table .now) (p .args .target .0) (c .if1 .taken)
 
 returns-2 : tie.Need-returns-2
-returns-2 c = target-outside (c .before .before .before .before .args .table .now) (c .before .before .before .before .args .target .0) (c .before .if1 .left) (c .if2 .taken)
+returns-2 c =
+    let p : tie.Start = search needs in
+    target-outside (p .args .table .now) (p .args .target .0) (c .before .if1 .left) (c .if2 .taken)
 
 mul-kind : tie.Need-mul-kind
 mul-kind c = search needs
@@ -26,7 +30,10 @@ is-pointer-or-count-requires : tie.Need-is-pointer-or-count-requires
 is-pointer-or-count-requires c κs = search needs
 
 returns-3 : tie.Need-returns-3
-returns-3 c = target-inside (c .before .before .before .before .before .before .before .args .table .now) (c .before .before .before .before .before .before .before .args .target .0) (c .before .before .before .before .if1 .left) (c .before .before .before .if2 .left) (c .before .kind .ensures) (c .is-pointer-or-count .ensures)
+returns-3 c =
+    let p : tie.Start = search needs in
+    target-inside (p .args .table .now) (p .args .target .0)
+    (c .before .before .before .before .if1 .left) (c .before .before .before .if2 .left) (c .before .kind .ensures) (c .is-pointer-or-count .ensures)
 
 pub is-bad-target-spec : {M : Type 1} → statement M
 is-bad-target-spec =

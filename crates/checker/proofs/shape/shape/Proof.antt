@@ -1,60 +1,46 @@
+-- `checker::shape::shape` meets its contract.
+-- Assumes nothing.
 use mathlib.Core.Path.{_≡_, sym, ap, _∙_}
 use native.Mathlib.Omega.{arith}
+use borrow.Author.Needs.{needs}
 use Rattle.checker.specs.Layout.{breakOf}
 use Rattle.checker.proofs.Stages.{bad-word, bad-layout, bad-pointer, no-bad-shape, break-within}
-use borrow.Author.Needs.{needs}
 use Rattle.checker.proofs.shape.shape.Statement.{statement}
 use Rattle.checker.proofs.shape.shape.Tie as tie
-use Rattle.checker.proofs.shape.shape.Reads as reads
-use Rattle.checker.proofs.shape.shape.Lts as lts
-use Rattle.checker.proofs.layout_fault.layout_break.Reads as layout-break-reads
-use Rattle.checker.proofs.pointer_fault.first_bad_pointer.Reads as first-bad-pointer-reads
-use Rattle.checker.proofs.word_fault.first_bad_word.Reads as first-bad-word-reads
 
--- src/shape.rt:17:9
 first-bad-word-requires : tie.Need-first-bad-word-requires
 first-bad-word-requires c κs = search needs
 
--- src/shape.rt:19:38
 cast-t7 : tie.Need-cast-t7
 cast-t7 c = search needs
 
--- src/shape.rt:19:9
 returns : tie.Need-returns
 returns c = bad-word (c .before .first-bad-word .ensures) (c .if1 .taken)
 
--- src/shape.rt:21:39
 layout-break-requires : tie.Need-layout-break-requires
 layout-break-requires c κs = search needs
 
--- src/shape.rt:21:33
 enum-known-at : tie.Need-enum-known-at
 enum-known-at c = search needs
 
--- src/shape.rt:22:40
 cast-t10 : tie.Need-cast-t10
 cast-t10 c = omega (arith, c .before .before .before .before .before .before .before .pre, break-within (c .before .before .before .before .before .before .before .args .table .now) _ (sym (c .before .before .before .layout-break .ensures) ∙ ap breakOf (c .before .at .given .1)))
 
--- src/shape.rt:22:9
 returns-2 : tie.Need-returns-2
 returns-2 c = bad-layout (c .before .before .before .before .before .first-bad-word .ensures) (c .before .before .before .before .if1 .left) (sym (c .before .before .before .layout-break .ensures) ∙ ap breakOf (c .before .at .given .1))
 
 enum-told : tie.Need-enum-told
 enum-told c = search needs
 
--- src/shape.rt:24:9
 first-bad-pointer-requires : tie.Need-first-bad-pointer-requires
 first-bad-pointer-requires c κs = search needs
 
--- src/shape.rt:26:41
 cast-t12 : tie.Need-cast-t12
 cast-t12 c = search needs
 
--- src/shape.rt:26:9
 returns-3 : tie.Need-returns-3
 returns-3 c = bad-pointer (c .before .before .before .before .before .before .first-bad-word .ensures) (c .before .before .before .before .before .if1 .left) (sym (c .before .before .before .before .layout-break .ensures) ∙ ap breakOf (c .before .before .enum-told .given .1)) (c .before .first-bad-pointer .ensures) (c .if2 .taken)
 
--- src/shape.rt:13:1
 returns-4 : tie.Need-returns-4
 returns-4 c = no-bad-shape (c .before .before .before .before .before .before .first-bad-word .ensures) (c .before .before .before .before .before .if1 .left) (sym (c .before .before .before .before .layout-break .ensures) ∙ ap breakOf (c .before .before .enum-told .given .1)) (c .before .first-bad-pointer .ensures) (c .if2 .left)
 

@@ -11,7 +11,9 @@ shared-slice-read-word : tie.Need-shared-slice-read-word
 shared-slice-read-word c = search needs
 
 returns : tie.Need-returns
-returns c = first-word (c .before .before .before .args .table .now) (c .before .before .before .args .at) (c .if1 .taken)
+returns c =
+    let p : tie.Start = search needs in
+    first-word (p .args .table .now) (p .args .at) (c .if1 .taken)
 
 kind-requires : tie.Need-kind-requires
 kind-requires c κs = search needs
@@ -23,7 +25,10 @@ is-bad-kind-requires : tie.Need-is-bad-kind-requires
 is-bad-kind-requires c κs = search needs
 
 returns-2 : tie.Need-returns-2
-returns-2 c = later-word (c .before .before .before .before .before .before .args .table .now) (c .before .before .before .before .before .before .args .at) (c .before .before .before .if1 .left) (c .before .before .kind .ensures) (c .before .content .ensures) (c .is-bad-kind .ensures)
+returns-2 c =
+    let p : tie.Start = search needs in
+    later-word (p .args .table .now) (p .args .at)
+    (c .before .before .before .if1 .left) (c .before .before .kind .ensures) (c .before .content .ensures) (c .is-bad-kind .ensures)
 
 pub is-bad-word-spec : {M : Type 1} → statement M
 is-bad-word-spec =

@@ -1,0 +1,164 @@
+-- Chains of variables, over any two functions: where each chain begins, and what comes after an address. In order:
+--   chains-none    before address 1 there are none
+--   chains-pass    an address that is no variable is passed by
+--   chains-more    a variable is put in front of its chain
+--   Walk           a walk down the chain of a label: what is left of the chain has each variable of that label
+--   walk-begins, walk-goes-on, walk-falls    its steps
+--   walk-hits      where it finds the label, the name is repeated
+--   walk-misses    where it comes to 0, the name is not
+-- Assumes nothing.
+use mathlib.Core.Path.{_≡_, refl, sym, ap, subst, _∙_}
+use mathlib.Core.Logic.{_⊎_, inl, inr, ⊎-elim}
+use mathlib.Core.List.{List}
+use Prim.Native.Nat.{ℕ, _+_, _%_, _≤_, _<_}
+use native.Mathlib.Decide.{ℕ-discrete}
+use native.Mathlib.Nat.{mod-lt}
+use native.Mathlib.Omega.{arith}
+use Rattle.words.specs.declared.kind.Kind.the-variants.{Variable, NoWord}
+use Rattle.table.specs.Table.{kindAt, contentAt}
+use Rattle.table.specs.Faults.{Repeats}
+use Rattle.checker.specs.Names.{Reach, here, further, Kept, Chains}
+
+kept-later : {t : List ℕ} {a x : ℕ} → Kept t a x → Kept t (a + 1) x
+kept-later k = record { below = omega arith; variable-there = k .variable-there }
+
+-- an address below a + 1 is below a or is a
+by-last : (P : ℕ → Type 0) (a : ℕ) → ((v : ℕ) → v < a → P v) → P a → (v : ℕ) → v < a + 1 → P v
+by-last P a before last v h = go (ℕ-discrete a v)
+  where
+    go : Dec (a ≡ v) → P v
+    go (yes e) = subst P e last
+    go (no e) = before v (omega (arith, e))
+
+pub chains-none : (t : List ℕ) (m : ℕ) (head next : ℕ → ℕ) → ((h : ℕ) → h < m → head h ≡ 0) → Chains t m 1 head next
+chains-none t m head next zero-there = record {
+  heads = λ h i. subst (Kept t 1) (sym (zero-there h i)) (record { below = omega arith; variable-there = λ p. absurd (omega arith) });
+  links = λ v p q k. absurd (omega arith);
+  all = λ b p q k. absurd (omega arith);
+}
+
+pub chains-pass : {t : List ℕ} {m a : ℕ} {head next : ℕ → ℕ} → Chains t m a head next → (kindAt t a ≡ Variable → ⊥) → Chains t m (a + 1) head next
+chains-pass {t} {m} {a} {head} {next} s other = record {
+  heads = λ h i. kept-later (s .heads h i);
+  links = λ v p q.
+      by-last (λ u. 0 < u → kindAt t u ≡ Variable → Kept t u (next u)) a (λ u i j. s .links u j i) (λ j k. absurd (other k)) v q p;
+  all = λ b p q.
+      by-last (λ u. 0 < u → kindAt t u ≡ Variable → Reach next (head (contentAt t u % m)) u) a (λ u i j. s .all u j i) (λ j k. absurd (other k)) b q p;
+}
+
+-- A variable at a is put in front of the chain that begins at h.
+pub record InFront (m a h : ℕ) (head next head' next' : ℕ → ℕ) : Type 0 where
+  pub first : head' h ≡ a
+  pub other-heads : (g : ℕ) → g < m → (g ≡ h → ⊥) → head' g ≡ head g
+  pub then : next' a ≡ head h
+  pub other-links : (v : ℕ) → (v ≡ a → ⊥) → next' v ≡ next v
+
+module _ {t : List ℕ} {m a h : ℕ} {head next head' next' : ℕ → ℕ} (s : Chains t m a head next) (f : InFront m a h head next head' next') where
+  -- a way among older addresses stays
+  reach-stays : {v b : ℕ} → Reach next v b → Kept t a v → Reach next' v b
+  reach-stays here k = here
+  reach-stays {v} {b} (further p r) k =
+      further p (
+      subst (λ x. Reach next' x b) (sym (f .other-links v (λ e. omega arith))) (
+      reach-stays r (
+      let l : Kept t v (next v) = s .links v p (k .below) (k .variable-there p) in
+      record { below = omega arith; variable-there = l .variable-there }
+      )
+      )
+      )
+
+  pub chains-more : 0 < a → h ≡ contentAt t a % m → h < m → kindAt t a ≡ Variable → Chains t m (a + 1) head' next'
+  chains-more pos here-slot small variable-here = record {
+    heads = λ g i. heads-at g i (ℕ-discrete g h);
+    links = λ v p q.
+        by-last (λ u. 0 < u → kindAt t u ≡ Variable → Kept t u (next' u)) a
+        (λ u i j k. subst (Kept t u) (sym (f .other-links u (λ e. omega arith))) (s .links u j i k))
+        (λ j k. subst (Kept t a) (sym (f .then)) (s .heads h small)) v q p;
+    all = λ b p q.
+        by-last (λ u. 0 < u → kindAt t u ≡ Variable → Reach next' (head' (contentAt t u % m)) u) a
+        (λ u i j k. older u i j k (ℕ-discrete (contentAt t u % m) h))
+        (λ j k. subst (λ x. Reach next' x a) (sym (ap head' (sym here-slot) ∙ f .first)) here) b q p;
+  }
+    where
+      heads-at : (g : ℕ) → g < m → Dec (g ≡ h) → Kept t (a + 1) (head' g)
+      heads-at g i (yes e) =
+          subst (Kept t (a + 1)) (sym (ap head' e ∙ f .first)) (record { below = omega arith; variable-there = λ p. variable-here })
+      heads-at g i (no e) = subst (Kept t (a + 1)) (sym (f .other-heads g i e)) (kept-later (s .heads g i))
+
+      older : (u : ℕ) → u < a → 0 < u → kindAt t u ≡ Variable → Dec (contentAt t u % m ≡ h) → Reach next' (head' (contentAt t u % m)) u
+      older u i j k (yes e) =
+          subst (λ x. Reach next' x u) (sym (ap head' e ∙ f .first)) (
+          further pos (
+          subst (λ x. Reach next' x u) (sym (f .then)) (
+          reach-stays (subst (λ x. Reach next (head x) u) e (s .all u j i k)) (s .heads h small)
+          )
+          )
+          )
+      older u i j k (no e) =
+          subst (λ x. Reach next' x u) (sym (f .other-heads _ slot-small e)) (reach-stays (s .all u j i k) (s .heads _ slot-small))
+        where
+          slot-small : contentAt t u % m < m
+          slot-small = mod-lt _ (omega arith)
+
+-- ---- a walk
+
+pub record Walk (t : List ℕ) (a label : ℕ) (next : ℕ → ℕ) (v : ℕ) : Type 0 where
+  pub kept : Kept t a v
+  pub left : (b : ℕ) → 0 < b → b < a → kindAt t b ≡ Variable → contentAt t b ≡ label → Reach next v b
+
+module _ {t : List ℕ} {m a : ℕ} {head next : ℕ → ℕ} (s : Chains t m a head next) where
+  pub walk-begins : {label h v : ℕ} → h ≡ label % m → h < m → v ≡ head h → Walk t a label next v
+  walk-begins {label} {h} {v} slot small e = record {
+    kept = subst (Kept t a) (sym e) (s .heads h small);
+    left = λ b p q k l. subst (λ x. Reach next x b) (ap (λ x. head (x % m)) l ∙ ap head (sym slot) ∙ sym e) (s .all b p q k);
+  }
+
+  link : {label v : ℕ} → Walk t a label next v → (v ≡ 0 → ⊥) → Kept t v (next v)
+  link {label} {v} w other = s .links v (omega (arith, other)) (w .kept .below) (w .kept .variable-there (omega (arith, other)))
+
+  pub walk-falls : {label v u : ℕ} → Walk t a label next v → (v ≡ 0 → ⊥) → u ≡ next v → u < v
+  walk-falls w other e = omega (arith, link w other .below)
+
+  pub walk-goes-on :
+      {label v u : ℕ} → Walk t a label next v → (v ≡ 0 → ⊥) → (contentAt t v ≡ label → ⊥) → u ≡ next v → Walk t a label next u
+  walk-goes-on {label} {v} {u} w other differs e = record {
+    kept = subst (Kept t a) (sym e) (let l = link w other in record { below = omega arith; variable-there = l .variable-there });
+    left = λ b p q k l. subst (λ x. Reach next x b) (sym e) (past (w .left b p q k l) differs l);
+  }
+    where
+      past : {x b : ℕ} → Reach next x b → (contentAt t x ≡ label → ⊥) → contentAt t b ≡ label → Reach next (next x) b
+      past here d l = absurd (d l)
+      past (further p r) d l = r
+
+pub walk-hits :
+    {t : List ℕ} {a label : ℕ} {next : ℕ → ℕ} {v : ℕ} →
+    Walk t a label next v →
+    (v ≡ 0 → ⊥) →
+    kindAt t a ≡ Variable →
+    contentAt t v ≡ contentAt t a →
+    Repeats t a
+walk-hits {t} {a} {label} {next} {v} w other k e = record {
+  later = k;
+  earlier = v;
+  before = w .kept .below;
+  variable-there = w .kept .variable-there (omega (arith, other));
+  same-label = e;
+}
+
+nothing-left : {next : ℕ → ℕ} {v b : ℕ} → Reach next v b → v ≡ 0 → 0 < b → ⊥
+nothing-left here e p = omega arith
+nothing-left (further q r) e p = omega arith
+
+pub walk-misses :
+    {t : List ℕ} {a label : ℕ} {next : ℕ → ℕ} {v : ℕ} →
+    kindAt t 0 ≡ NoWord →
+    Walk t a label next v →
+    label ≡ contentAt t a →
+    v ≡ 0 →
+    Repeats t a →
+    ⊥
+walk-misses {t} {a} none w l e r = go (ℕ-discrete (r .earlier) 0)
+  where
+    go : Dec (r .earlier ≡ 0) → ⊥
+    go (yes z) = let c : _≡_ {A = ℕ} 0 1 = cc (ap (kindAt t) z) in omega arith
+    go (no z) = nothing-left (w .left (r .earlier) (omega (arith, z)) (r .before) (r .variable-there) (r .same-label ∙ sym l)) e (omega (arith, z))

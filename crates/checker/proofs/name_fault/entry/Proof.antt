@@ -1,0 +1,20 @@
+-- `checker::name_fault::entry` meets its contract: an entry has 16 bits. Assumes nothing.
+use native.Mathlib.Omega.{arith}
+use borrow.Author.Needs.{needs}
+use Rattle.checker.proofs.name_fault.entry.Statement.{statement}
+use Rattle.checker.proofs.name_fault.entry.Tie as tie
+
+mul-result : tie.Need-mul-result
+mul-result c = search needs
+
+shared-slice-read-result : tie.Need-shared-slice-read-result
+shared-slice-read-result c = search needs
+
+cast-result : tie.Need-cast-result
+cast-result c = omega (arith, c .shared-slice-known .given (c .before .args .place))
+
+returns : tie.Need-returns
+returns c = search needs
+
+pub entry-spec : {M : Type 1} → statement M
+entry-spec = tie.close (tie.spec mul-result shared-slice-read-result cast-result returns)

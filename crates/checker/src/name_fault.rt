@@ -1,0 +1,119 @@
+// Answer 6, NAME: "a variable's label stood earlier".
+//
+// The variables met so far are kept in chains in the work row, for a table of n words: the chain of a
+// label begins at entry label % 3n with the newest address, and entry 3n + a has the address that
+// comes after a. Address 0, which is no variable, ends a chain. Links fall, so a walk ends. Labels
+// have 16 bits, so no chain is longer than 65,536 / 3n + 1 before a label repeats, and no table takes
+// more than about 11,000 comparisons of labels.
+ghost use mathlib.Core.Path.{_≡_};
+ghost use Prim.Native.Nat.{_+_, _*_, _%_, _<_, _≤_};
+ghost use lib.ListN.{length, getD};
+ghost use Rattle.words.specs.declared.kind.Kind.{Kind};
+ghost use Rattle.table.specs.Faults.{Repeats};
+ghost use Rattle.table.specs.Table.{wordAt, kindAt, contentAt};
+ghost use Rattle.checker.specs.Names.{variableKind, Either, Chained, ChainedOn, Judged, FirstRepeated};
+use words::kind::Kind;
+use words::numbers::Label;
+use words::word;
+
+// A chain begins at one of 3n entries.
+const STARTS_A_WORD: usize = 3;
+
+// The work row has 4n entries: those, and a link for each word.
+const ENTRIES_A_WORD: usize = 4;
+
+fn is_variable(kind: Kind) -> bool
+    ensures { λ r. ⌜ r ≡ variableKind kind ⌝ }
+{
+    match kind {
+        Kind::Variable => true,
+        Kind::Constant => false,
+        Kind::Function => false,
+        Kind::Pointer => false,
+        Kind::Count => false,
+        Kind::NoWord => false,
+    }
+}
+
+fn label_at(table: &[u32], at: usize) -> Label
+    requires { ⌜ at < length (now table) ⌝ }
+    ensures { λ r. ⌜ r .0 ≡ contentAt (now (table .entry)) at ⌝ }
+{
+    word::label(table[at])
+}
+
+// An entry of the work row, which is an address.
+fn entry(work: &[u16], place: usize) -> usize
+    requires { ⌜ place < length (now work) ⌝ }
+    ensures { λ r. ⌜ r ≡ getD (now (work .entry)) place 0 ⌝ }
+{
+    work[place] as usize
+}
+
+// Where the chain of a label begins.
+fn start(label: Label, starts: usize) -> usize
+    requires { ⌜ 0 < starts ⌝ }
+    ensures { λ r. ⌜ (r ≡ label .0 % starts) × (r < starts) ⌝ }
+{
+    label.0 as usize % starts
+}
+
+// Whether the label of the variable at an address stood earlier.
+fn stood_earlier(table: &[u32], work: &[u16], at: usize) -> bool
+    requires { ⌜ Chained (now table) (now work) at × (at < length (now table)) × (kindAt (now table) at ≡ Kind.Variable) ⌝ }
+    ensures { λ r. ⌜ Either r (Repeats (now (table .entry)) at) (Repeats (now (table .entry)) at → ⊥) ⌝ }
+{
+    let starts = STARTS_A_WORD * table.len();
+    let label = label_at(table, at);
+    let mut earlier = entry(work, start(label, starts));
+    while earlier != 0 {
+        if label_at(table, earlier).0 == label.0 {
+            return true;
+        }
+        earlier = entry(work, starts + earlier);
+    }
+    false
+}
+
+// Puts the variable at an address in front of the chain of its label.
+fn put_in_front(table: &[u32], work: &mut [u16], at: usize)
+    requires { ⌜ Chained (now table) (now work) at × (at < length (now table)) × (kindAt (now table) at ≡ Kind.Variable) ⌝ }
+    ensures { λ _. ⌜ ChainedOn (now (table .entry)) (now (work .entry)) (now (work .exit)) (at + 1) ⌝ }
+{
+    let starts = STARTS_A_WORD * table.len();
+    let first = start(label_at(table, at), starts);
+    work[starts + at] = work[first];
+    work[first] = at as u16;
+}
+
+// Whether the word at an address repeats a name. A variable that does not joins the chains.
+fn repeats_name(table: &[u32], work: &mut [u16], at: usize) -> bool
+    requires { ⌜ Chained (now table) (now work) at × (at < length (now table)) ⌝ }
+    ensures { λ r. ⌜ Judged (now (table .entry)) (now (work .entry)) (now (work .exit)) at r ⌝ }
+{
+    if !is_variable(word::kind(table[at])) {
+        return false;
+    }
+    if stood_earlier(table, work, at) {
+        return true;
+    }
+    put_in_front(table, work, at);
+    false
+}
+
+// The lowest address of a variable whose label stood earlier, or the table's length where there is
+// none. The first 4n entries of the work row are written over, and nothing is said of them.
+pub(crate) fn first_repeated_name(table: &[u32], work: &mut [u16]) -> usize
+    requires { ⌜ (0 < length (now table)) × (length (now table) ≤ 4096) × (4 * length (now table) ≤ length (now work)) × (wordAt (now table) 0 ≡ 0) ⌝ }
+    ensures { λ r. ⌜ FirstRepeated (now (table .entry)) (now (work .entry)) (now (work .exit)) r ⌝ }
+{
+    rows::clear16(work, ENTRIES_A_WORD * table.len());
+    let mut at = 1;
+    while at < table.len() {
+        if repeats_name(table, work, at) {
+            return at;
+        }
+        at += 1;
+    }
+    at
+}
