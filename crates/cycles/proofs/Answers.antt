@@ -1,13 +1,12 @@
 -- The answers of the search: a number met again on the path reaches itself (`closed`); with all marks at 0 the search can start
 -- (`start`); where every name is begun and the path is empty, no number reaches itself (`none`). Assumes nothing.
-use mathlib.Core.Path.{_≡_, refl, sym, ap, _∙_, subst}
-use mathlib.Core.Bool.{Bool, true, false}
+use mathlib.Core.Path.{_≡_, sym, ap, _∙_, subst}
+use mathlib.Core.Bool.{true, false}
 use mathlib.Core.List.{List}
 use Prim.Native.Nat.{ℕ, zero, suc, _+_, _-_, _*_, _≤_, _<_}
-use native.Mathlib.Nat.{add-zero, add-suc}
 use native.Mathlib.Decide.{ℕ-discrete, decLe}
 use native.Mathlib.Omega.{arith}
-use lib.ListN.{length, getD}
+use lib.ListN.{length}
 use Rattle.graphs.specs.Graph.{Steps, one, more}
 use Rattle.graphs.proofs.Finite.{steps-snoc}
 use Rattle.cycles.specs.Net.{Net, Way, Returns}

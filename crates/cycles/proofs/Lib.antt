@@ -1,7 +1,8 @@
--- The laws of the search, from the bottom up.
+-- The laws of the search, from the bottom up. `Agree` is for other crates too.
 mod Totals
 mod Stores
 mod Moves
 mod Answers
 mod Looks
 mod Roots
+pub mod Agree

@@ -1,11 +1,11 @@
 -- What a look comes to, from what it read: the three ways out of `follow` (`new`, `closing`, `passed`) and that of `look` at a
 -- number with no way left (`leaving`), and the bounds of what they read. Assumes nothing.
-use mathlib.Core.Path.{_≡_, refl, sym, ap, _∙_, subst}
+use mathlib.Core.Path.{_≡_, refl, sym, ap, subst}
 use mathlib.Core.List.{List}
-use Prim.Native.Nat.{ℕ, _+_, _-_, _*_, _≤_, _<_}
+use Prim.Native.Nat.{ℕ, _+_, _-_, _≤_, _<_}
 use native.Mathlib.Omega.{arith}
-use lib.ListN.{length, getD, set}
-use Rattle.table.specs.Table.{degree, childOf}
+use lib.ListN.{length, set}
+use Rattle.table.specs.Table.{degree}
 use Rattle.cycles.specs.Net.{Net, Way, netOf}
 use Rattle.cycles.specs.Marks.{Ready, mark, onPath, Safe, Search, Moved, Stopped, Facing}
 use Rattle.cycles.proofs.Moves.{begin, advance, finish, finished-safe, path-room}

@@ -1,13 +1,13 @@
 -- The moves of the search keep its invariant: a new number is begun (`begin`), a way was looked at (`advance`), and the number
 -- at the end of the path is finished (`finish`). Each is `Moved`. Assumes nothing.
-use mathlib.Core.Path.{_≡_, refl, sym, ap, _∙_, subst}
+use mathlib.Core.Path.{_≡_, sym, ap, _∙_, subst}
 use mathlib.Core.List.{List}
-use Prim.Native.Nat.{ℕ, zero, suc, _+_, _-_, _*_, _≤_, _<_}
+use Prim.Native.Nat.{ℕ, _+_, _-_, _≤_, _<_}
 use native.Mathlib.Decide.{ℕ-discrete, decLt}
 use native.Mathlib.Omega.{arith}
-use lib.ListN.{length, getD, set}
+use lib.ListN.{set}
 use Rattle.cycles.specs.Net.{Net, Way}
-use Rattle.cycles.specs.Marks.{mark, onPath, news, Safe, safe, Search, Moved}
+use Rattle.cycles.specs.Marks.{mark, onPath, Safe, safe, Search, Moved}
 use Rattle.cycles.proofs.Totals.{total-part}
 use Rattle.cycles.proofs.Stores.{Raised, raised-mark, raised-push, pushed, raised-grown, raised-less, raised-begun, raised-new}
 

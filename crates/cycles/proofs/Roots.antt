@@ -1,7 +1,8 @@
 -- The search from one root and from every name, put together from looks: a look's answer by its two cases (`looked-cycle`,
--- `looked-path`), the root on the path (`rooted`, `root-begun`), what a visit says by its answer (`visited`, `visit-found`,
--- `visit-passed`), and the names visited so far (`Swept`). Assumes nothing.
-use mathlib.Core.Path.{_≡_, refl, sym, ap, _∙_, subst}
+-- `looked-path`), the root on the path (`rooted`, `root-begun`) and off it again (`ended`), what a visit says by its answer
+-- (`visited`), the names visited so far (`Swept`, `visit-found`, `visit-passed`, `swept-all`), and the clearings before and after
+-- (`ready`, `started`, `searched`). Assumes nothing.
+use mathlib.Core.Path.{_≡_, sym, ap, _∙_, subst}
 use mathlib.Core.Bool.{Bool, true, false}
 use mathlib.Core.List.{List, _++_}
 use Prim.Native.Nat.{ℕ, _+_, _-_, _*_, _≤_, _<_}
@@ -11,7 +12,7 @@ use lib.ListN.{length, getD, set, drop, replicate, length-replicate, getD-replic
 use lib.Seq.{drop-at}
 use Rattle.graphs.specs.Partition.{entry}
 use Rattle.cycles.specs.declared.path.Turn.{Turn}
-use Rattle.cycles.specs.Net.{Net, Way, Returns, netOf, Searchable}
+use Rattle.cycles.specs.Net.{Net, Way, netOf, Searchable, Searched}
 use Rattle.cycles.specs.Marks.{Ready, mark, onPath, Search, Grown, Moved, Stopped, Ended, Looked, Rooted, Visited, Told}
 use Rattle.cycles.proofs.Stores.{pushed, grown-none, grown-join}
 use Rattle.cycles.proofs.Moves.{begin, path-room}
@@ -127,6 +128,17 @@ module _ {t row : List ℕ} (work : List ℕ) (asked : Searchable t row (length 
       ∙ List·getD-append (replicate (2 * length t) 0) (drop (2 * length t) work) 0 x (omega (arith, length-replicate {A = ℕ} (2 * length t) 0))
       ∙ getD-replicate (2 * length t) x 0 0 (omega arith))
 
--- a clearing leaves what is behind it
-pub cleared-behind : (n : ℕ) (work : List ℕ) {work′ : List ℕ} → work′ ≡ replicate n 0 ++ drop n work → drop n work′ ≡ drop n work
-cleared-behind n work cleared = ap (drop n) cleared ∙ drop-at (replicate n 0) (drop n work) n (length-replicate n 0)
+-- after the last one
+pub searched : {t row u v w x : List ℕ} {answer : Bool} → v ≡ replicate (2 * length t) 0 ++ drop (2 * length t) u
+    → Told (netOf t row) v w answer → x ≡ replicate (2 * length t) 0 ++ drop (2 * length t) w → Searched t row u answer x
+searched {t} {row} {u} {v} first told last =
+    record {
+      truth = told .truth;
+      cleared = last ∙ ap (λ (l : List ℕ). replicate n 0 ++ l) (told .behind ∙ ap (drop n) first ∙ behind);
+    }
+  where
+    n : ℕ
+    n = 2 * length t
+
+    behind : drop n (replicate n 0 ++ drop n u) ≡ drop n u
+    behind = drop-at (replicate n 0) (drop n u) n (length-replicate n 0)

@@ -1,15 +1,14 @@
 -- One mark raised by one: what every move of the search does to the work row. `Raised` says it, `raised-mark` and
 -- `raised-push` show it of the two ways to store, and `grown` and `less` have what it does to all marks. Assumes nothing.
-use mathlib.Core.Path.{_≡_, refl, sym, ap, _∙_, subst}
-use mathlib.Core.Logic.{_⊎_, inl, inr, ⊎-elim}
+use mathlib.Core.Path.{_≡_, refl, ap, _∙_}
 use mathlib.Core.List.{List}
-use Prim.Native.Nat.{ℕ, zero, suc, _+_, _-_, _*_, _≤_, _<_}
+use Prim.Native.Nat.{ℕ, _+_, _-_, _*_, _≤_, _<_}
 use native.Mathlib.Decide.{ℕ-discrete}
 use native.Mathlib.Omega.{arith}
-use lib.ListN.{length, getD, set, drop, length-set}
+use lib.ListN.{length, set, drop, length-set}
 use lib.Seq.{getD-set-same, getD-set-other, drop-set-lt}
 use Rattle.cycles.specs.Net.{Net}
-use Rattle.cycles.specs.Marks.{mark, onPath, total, left, news, Grown}
+use Rattle.cycles.specs.Marks.{mark, onPath, left, news, Grown}
 use Rattle.cycles.proofs.Totals.{total-one}
 
 -- The mark of x was raised by one. The other marks, the path below `depth` and what is behind it are as they were.

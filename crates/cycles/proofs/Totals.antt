@@ -1,6 +1,6 @@
 -- Sums over marks. A store changes a sum by what it changes at its own place (`total-one`); a sum has each of its parts
 -- (`total-part`), and the number of new marks is at most that of all (`news-all`). Assumes nothing.
-use mathlib.Core.Path.{_≡_, refl, sym, ap, _∙_}
+use mathlib.Core.Path.{_≡_, refl, ap}
 use mathlib.Core.List.{List}
 use Prim.Native.Nat.{ℕ, zero, suc, _+_, _-_, _≤_, _<_}
 use native.Mathlib.Decide.{ℕ-discrete}

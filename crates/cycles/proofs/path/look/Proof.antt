@@ -39,7 +39,17 @@ follow-requires c κs =
     let p : tie.Start = search needs in
     let a : tie.After-at = search needs in
     let m : tie.After-at2 = search needs in
-    (p .pre .0, record { search = p .pre .1; some = p .pre .2; end = sym (a .at .ensures); looked = omega (arith, end-begun (p .pre .1) (p .pre .2) (a .at .ensures), m .at2 .ensures); more = omega (arith, c .before .if1 .taken, c .before .before .ways .ensures) })
+    let w : tie.After-ways = search needs in
+    let b : tie.Then1 = search needs in (
+      p .pre .0,
+      record {
+        search = p .pre .1;
+        some = p .pre .2;
+        end = sym (a .at .ensures);
+        looked = omega (arith, end-begun (p .pre .1) (p .pre .2) (a .at .ensures), m .at2 .ensures);
+        more = omega (arith, b .if1 .taken, w .ways .ensures);
+      },
+    )
 
 same-length : tie.Need-same-length
 same-length c = search needs
@@ -51,7 +61,9 @@ raise-requires : tie.Need-raise-requires
 raise-requires c κs =
     let p : tie.Start = search needs in
     let a : tie.After-at = search needs in
-    (omega (arith, end-inside (p .pre .1) (p .pre .2) (a .at .ensures), p .pre .1 .room), omega (arith, end-unfinished (p .pre .1) (p .pre .2) (a .at .ensures), p .pre .0 .counts (a .at .result)))
+    let inside : _ = end-inside (p .pre .1) (p .pre .2) (a .at .ensures) in
+    let unfinished : _ = end-unfinished (p .pre .1) (p .pre .2) (a .at .ensures) in
+    (omega (arith, inside, p .pre .1 .room), omega (arith, unfinished, p .pre .0 .counts (a .at .result)))
 
 sub-t9 : tie.Need-sub-t9
 sub-t9 c = search needs
@@ -64,7 +76,10 @@ returns-2 c =
     let p : tie.Start = search needs in
     let a : tie.After-at = search needs in
     let m : tie.After-at2 = search needs in
-    leaving (p .pre .1) (p .pre .2) (a .at .ensures) _ (omega (arith, m .at2 .ensures, c .before .before .before .before .if1 .left, c .before .before .before .before .before .ways .ensures)) (c .before .before .raise .ensures)
+    let w : tie.After-ways = search needs in
+    let b : tie.Else1 = search needs in
+    let e : tie.After-raise = search needs in
+    leaving (p .pre .1) (p .pre .2) (a .at .ensures) _ (omega (arith, m .at2 .ensures, b .if1 .left, w .ways .ensures)) (e .raise .ensures)
 
 pub look-spec : {M : Type 1} → statement M
 look-spec =

@@ -16,23 +16,27 @@ abbrev μ-loop : tie.MeasureT-loop
 μ-loop table class work₀ x₀ work x = length table - x
 
 loop-holds : tie.Need-loop-holds Inv-loop μ-loop
-loop-holds c = swept-none (c .before .before .before .pre .1)
+loop-holds c =
+    let p : tie.Start Inv-loop μ-loop = search needs in
+    swept-none (p .pre .1)
 
 visit-requires : tie.Need-visit-requires Inv-loop μ-loop
 visit-requires c κs =
     let p : tie.Start Inv-loop μ-loop = search needs in
     let o : tie.At-loop Inv-loop μ-loop = search needs in
-    (p .pre .0, o .loop .inv .search, c .before .loop-test .taken)
+    (p .pre .0, o .loop .inv .search, omega arith)
 
 same-length : tie.Need-same-length Inv-loop μ-loop
 same-length c =
     let o : tie.At-loop Inv-loop μ-loop = search needs in
-    omega (arith, c .before .before .before .visit .kept .1 .1 .0, o .loop .inv .grown .long)
+    let v : tie.After-visit Inv-loop μ-loop = search needs in
+    omega (arith, v .visit .kept .1 .1 .0, o .loop .inv .grown .long)
 
 returns : tie.Need-returns Inv-loop μ-loop
 returns c =
     let o : tie.At-loop Inv-loop μ-loop = search needs in
-    visit-found (o .loop .inv) (c .before .before .before .before .before .loop-test .taken) (c .before .before .before .visit .ensures) (c .if1 .taken)
+    let v : tie.After-visit Inv-loop μ-loop = search needs in
+    visit-found (o .loop .inv) (omega arith) (v .visit .ensures) (c .if1 .taken)
 
 add-x : tie.Need-add-x Inv-loop μ-loop
 add-x c = omega arith
@@ -43,7 +47,8 @@ loop-less c = omega arith
 loop-again : tie.Need-loop-again Inv-loop μ-loop
 loop-again c =
     let o : tie.At-loop Inv-loop μ-loop = search needs in
-    visit-passed (o .loop .inv) (c .before .before .before .before .before .loop-test .taken) (c .before .before .before .visit .ensures) (c .if1 .left)
+    let v : tie.After-visit Inv-loop μ-loop = search needs in
+    visit-passed (o .loop .inv) (omega arith) (v .visit .ensures) (c .if1 .left)
 
 same-length-2 : tie.Need-same-length-2 Inv-loop μ-loop
 same-length-2 c = c .before .loop .inv .grown .long

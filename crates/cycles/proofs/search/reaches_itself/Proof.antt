@@ -1,11 +1,7 @@
 -- `cycles::search::reaches_itself` meets its contract: the first clearing lets the search start, and the last one leaves zeros, with what is
 -- behind them as it came. Assumes nothing.
-use mathlib.Core.Path.{_∙_, ap}
-use mathlib.Core.List.{_++_}
-use Prim.Native.Nat.{_*_}
-use lib.ListN.{length, replicate}
 use borrow.Author.Needs.{needs}
-use Rattle.cycles.proofs.Roots.{ready, started, cleared-behind}
+use Rattle.cycles.proofs.Roots.{ready, started, searched}
 use Rattle.cycles.proofs.search.reaches_itself.Statement.{statement}
 use Rattle.cycles.proofs.search.reaches_itself.Tie as tie
 
@@ -32,11 +28,10 @@ same-length c = search needs
 
 returns : tie.Need-returns
 returns c =
-    let p : tie.Start = search needs in
     let k : tie.After-clear16 = search needs in
     let e : tie.After-from-each = search needs in
     let l : tie.After-clear162 = search needs in
-    record { truth = e .from-each .ensures .truth; cleared = l .clear162 .ensures ∙ ap (λ v. replicate (2 * length (p .args .table .now)) 0 ++ v) (e .from-each .ensures .behind ∙ cleared-behind (2 * length (p .args .table .now)) (p .args .work .now) (k .clear16 .ensures)) }
+    searched (k .clear16 .ensures) (e .from-each .ensures) (l .clear162 .ensures)
 
 pub reaches-itself-spec : {M : Type 1} → statement M
 reaches-itself-spec =

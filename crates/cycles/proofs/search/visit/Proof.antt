@@ -26,7 +26,9 @@ same-length-2 : tie.Need-same-length-2
 same-length-2 c = search needs
 
 returns-3 : tie.Need-returns-3
-returns-3 c = visited _ _ _ _ _ (c .before .before .from-root .result) (c .before .before .from-root .ensures)
+returns-3 c =
+    let f : tie.After-from-root = search needs in
+    visited _ _ _ _ _ (f .from-root .result) (f .from-root .ensures)
 
 pub visit-spec : {M : Type 1} → statement M
 visit-spec =
