@@ -333,3 +333,24 @@ fn deep_chain() {
     table[last] = pointer(1);
     assert_eq!(check(&table), (LOOP, 0));
 }
+
+/// The most comparisons of labels that a table of n words can take. A chain holds labels that agree
+/// modulo 3n, and all differ until one repeats; so it is worst to fill chain after chain, and to
+/// repeat a label of a full chain at the end.
+#[test]
+fn no_table_takes_11_000_comparisons() {
+    let worst = (2..=MOST_WORDS)
+        .map(|n| {
+            let longest = (65_536 + 3 * n - 1) / (3 * n);
+            // each variable is compared with all that stand in its chain before it
+            let of_different = |variables: usize| {
+                let (full, left) = (variables / longest, variables % longest);
+                full * longest * (longest - 1) / 2 + left * left.saturating_sub(1) / 2
+            };
+            let repeated = of_different(n - 2) + longest.min(n - 2);
+            repeated.max(of_different(n - 1))
+        })
+        .max();
+    println!("at most {worst:?} comparisons of labels");
+    assert!(worst < Some(11_000));
+}
