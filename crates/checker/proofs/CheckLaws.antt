@@ -6,24 +6,23 @@
 use mathlib.Core.Path.{_≡_, refl, sym, ap, _∙_, subst}
 use mathlib.Core.Bool.{Bool, true, false}
 use mathlib.Core.Logic.{_⊎_, inl, inr, ⊎-elim}
-use mathlib.Core.List.{List, [], _∷_, _++_}
-use Prim.Native.Nat.{ℕ, zero, suc, _+_, _*_, _≤_, _<_}
+use mathlib.Core.List.{List, [], _++_}
+use Prim.Native.Nat.{ℕ, _*_, _≤_, _<_}
 use native.Mathlib.Omega.{arith}
 use lib.ListN.{length, drop, replicate}
-use Rattle.graphs.specs.Graph.{Child, Steps}
 use Rattle.graphs.proofs.Classes.{never}
-use Rattle.words.specs.declared.kind.Kind.the-variants.{Variable}
-use Rattle.table.specs.Table.{kindAt, nodeKind, graphOf}
+use Rattle.table.specs.Table.{nodeKind}
 use Rattle.table.specs.Answers.{Lowest, Answered}
-use Rattle.table.specs.Faults.{Job, Repeats, Row, SIZE, ROOM, WORD, LAYOUT, POINTER, NAME, LOOP, number, Fault, size-fault, room-fault, name-fault, loop-fault, checkOrder}
-use Rattle.table.proofs.Shape.{Shaped, inside-kind}
+use Rattle.table.specs.Faults.{Job, Repeats, SIZE, ROOM, NAME, LOOP, number, Fault, size-fault, room-fault, name-fault, loop-fault}
+use Rattle.table.specs.Shaped.{Shaped}
+use Rattle.table.proofs.Shape.{inside-kind}
 use Rattle.table.proofs.WellFormed.{no-fault-shaped}
 use Rattle.table.proofs.OneAnswer.{refused-first, passed-first, number-positive}
 use Rattle.checker.specs.declared.answer.Checked.{Checked}
 use Rattle.checker.specs.declared.answer.Checked.the-variants.{Accepted, Size, Room, Word, Layout, Pointer, Name, Loop}
 use Rattle.checker.specs.Check.{numberOf, placeOf, zeroed, left, jobOf, CheckOf}
 use Rattle.checker.specs.Names.{FirstRepeated}
-use Rattle.checker.specs.Stages.{ByRows, shapeRows, nameRows, passes, Roomy, Kept, Stage, Loops, LoopSearch}
+use Rattle.checker.specs.Stages.{ByRows, shapeRows, nameRows, passes, Roomy, Stage, Loops, LoopSearch}
 
 -- ---- names and loops
 

@@ -5,19 +5,20 @@
 -- Assumes nothing.
 use mathlib.Core.Path.{_≡_, refl, sym, ap, _∙_, subst}
 use mathlib.Core.Bool.{Bool, true, false}
-use mathlib.Core.List.{List, [], _∷_, _++_}
+use mathlib.Core.List.{List, _++_}
 use Prim.Native.Nat.{ℕ, zero, suc, _+_, _-_, _*_, _≤_, _<_}
 use native.Mathlib.Omega.{arith}
-use lib.ListN.{length, getD, drop, replicate, length-append, length-drop, length-replicate, List·getD-append}
+use lib.ListN.{length, getD, drop, replicate, length-append, length-replicate, List·getD-append}
 use lib.Seq.{drop-at, drop-drop}
-use Rattle.graphs.specs.Graph.{Child, Steps}
+use Rattle.graphs.specs.Graph.{Child}
 use Rattle.graphs.specs.Partition.{entry}
 use Rattle.graphs.proofs.Finite.{steps-map}
-use Rattle.table.specs.Table.{choose, kindAt, contentAt, nodeKind, functionKind, graphOf, degree, childOf}
+use Rattle.table.specs.Table.{choose, contentAt, nodeKind, graphOf, degree, childOf}
 use Rattle.table.proofs.Children.{NamedChild, named-child, degree-child}
-use Rattle.table.proofs.Shape.{Shaped, inside-kind, shaped-laid, shaped-degree, shaped-child}
+use Rattle.table.specs.Shaped.{Shaped}
+use Rattle.table.proofs.Shape.{inside-kind, shaped-laid, shaped-degree, shaped-child}
 use Rattle.cycles.specs.Net.{Way, netOf, Returns, Searchable, Searched}
-use Rattle.checker.specs.Stages.{counting, Roomy, Kept, Loops, LoopSearch}
+use Rattle.checker.specs.Stages.{counting, Roomy, Loops, LoopSearch}
 
 -- ---- the row of own classes
 

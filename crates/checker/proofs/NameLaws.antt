@@ -18,7 +18,7 @@ use Rattle.words.specs.declared.kind.Kind.{Kind}
 use Rattle.words.specs.declared.kind.Kind.the-variants.{Variable, Constant, Function, Pointer, Count, NoWord}
 use Rattle.table.specs.Table.{wordAt, kindAt, contentAt}
 use Rattle.table.specs.Faults.{Repeats}
-use Rattle.checker.specs.Names.{variableKind, Either, headIn, nextIn, Chains, Chained, ChainedOn, Judged, FirstRepeated}
+use Rattle.checker.specs.Names.{variableKind, Either, headIn, nextIn, Chained, ChainedOn, Judged, FirstRepeated}
 use Rattle.checker.proofs.ChainLaws.{chains-none, chains-pass, chains-more, InFront}
 
 pub is-variable : (k : Kind) → variableKind k ≡ true → k ≡ Variable

@@ -2,21 +2,20 @@
 --
 -- In order: a search and its row (`first-lowest`, `first-none`); the shape rows; where the row of items can break
 -- (`break-within`). Assumes nothing.
-use mathlib.Core.Path.{_≡_, refl, sym, ap, _∙_, subst}
+use mathlib.Core.Path.{_≡_, refl, sym, _∙_}
 use mathlib.Core.Bool.{Bool, true, false}
-use mathlib.Core.Logic.{_⊎_, inl, inr}
+use mathlib.Core.Logic.{inl, inr}
 use mathlib.Core.List.{List, [], _∷_}
-use mathlib.Core.Option.{Option, none, some}
-use Prim.Native.Nat.{ℕ, zero, suc, _+_, _≤_, _<_}
+use mathlib.Core.Option.{none, some}
+use Prim.Native.Nat.{ℕ, suc, _+_, _≤_, _<_}
 use native.Mathlib.Omega.{arith}
 use lib.ListN.{length, drop, length-drop}
 use Rattle.words.specs.Word.{kindOf}
 use Rattle.graphs.proofs.Classes.{never}
 use Rattle.table.specs.Layout.{Wanted, item, count, arguments, canStand, after, atEnd, breakFrom}
-use Rattle.table.specs.Answers.{Lowest, First, Answered}
-use Rattle.table.specs.Faults.{Job, badWord, badPointer, WORD, LAYOUT, POINTER, Fault, word-fault, layout-fault, pointer-fault, number}
+use Rattle.table.specs.Answers.{Lowest, First}
+use Rattle.table.specs.Faults.{badWord, badPointer, WORD, LAYOUT, POINTER, Fault, word-fault, layout-fault, pointer-fault, number}
 use Rattle.table.proofs.Blocks.{break-stands, break-stops}
-use Rattle.checker.specs.declared.answer.Checked.{Checked}
 use Rattle.checker.specs.declared.answer.Checked.the-variants.{Accepted, Word, Layout, Pointer}
 use Rattle.checker.specs.Stages.{ByRows, shapeRows}
 

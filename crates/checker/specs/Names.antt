@@ -7,7 +7,7 @@ use Prim.Native.Nat.{ℕ, _+_, _*_, _%_, _≤_, _<_}
 use lib.ListN.{length, getD, drop}
 use Rattle.words.specs.declared.kind.Kind.{Kind}
 use Rattle.words.specs.declared.kind.Kind.the-variants.{Variable, Constant, Function, Pointer, Count, NoWord}
-use Rattle.table.specs.Table.{wordAt, kindAt, contentAt}
+use Rattle.table.specs.Table.{kindAt, contentAt}
 use Rattle.table.specs.Faults.{Repeats}
 
 -- The lowest address that repeats a name, or the table's length; of the work row, the entries after the first 4n stay.

@@ -2,13 +2,12 @@
 use mathlib.Core.Path.{_≡_}
 use mathlib.Core.Bool.{Bool, true, false}
 use mathlib.Core.List.{List, [], _∷_}
-use Prim.Native.Nat.{ℕ, zero, suc, _+_, _*_, _≤_, _<_}
+use Prim.Native.Nat.{ℕ, zero, suc, _*_, _≤_, _<_}
 use lib.ListN.{length, drop}
 use Rattle.graphs.specs.Graph.{Child, Steps}
 use Rattle.table.specs.Table.{graphOf}
 use Rattle.table.specs.Answers.{Answered}
 use Rattle.table.specs.Faults.{Row, WORD, LAYOUT, POINTER, NAME, LOOP, Fault, number}
-use Rattle.table.proofs.Shape.{Shaped}
 use Rattle.checker.specs.declared.answer.Checked.{Checked}
 use Rattle.checker.specs.declared.answer.Checked.the-variants.{Accepted, Size, Room, Word, Layout, Pointer, Name, Loop}
 use Rattle.checker.specs.Check.{numberOf, placeOf}

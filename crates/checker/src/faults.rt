@@ -1,6 +1,6 @@
 // The answers from 3 on, for a table of an allowed size with room for it.
 ghost use mathlib.Core.List.{_++_};
-ghost use Rattle.table.proofs.Shape.{Shaped};
+ghost use Rattle.table.specs.Shaped.{Shaped};
 ghost use Rattle.checker.specs.Stages.{shapeRows, nameRows, Roomy, Stage};
 use crate::answer;
 use crate::answer::Checked;

@@ -3,7 +3,7 @@ ghost use mathlib.Core.Path.{_≡_};
 ghost use mathlib.Core.List.{_++_};
 ghost use Prim.Native.Nat.{_≤_};
 ghost use lib.ListN.{length, drop};
-ghost use Rattle.table.proofs.Shape.{Shaped};
+ghost use Rattle.table.specs.Shaped.{Shaped};
 ghost use Rattle.checker.specs.Stages.{counting, Roomy, LoopSearch};
 
 // Each of the first n addresses becomes its own class.

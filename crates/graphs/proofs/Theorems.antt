@@ -8,7 +8,7 @@ use mathlib.Core.Path.{_≡_}
 use mathlib.Core.Logic.{_↔_}
 use mathlib.Core.Bool.{true}
 use mathlib.Core.List.{List}
-use Prim.Native.Nat.{ℕ, _≤_, _<_}
+use Prim.Native.Nat.{ℕ, _≤_}
 use lib.ListN.{take}
 use Rattle.graphs.specs.Graph.{Symbols, variable, Graph, Node, WellFormed}
 use Rattle.graphs.specs.Partition.{Pair, _∈_, Sides, Same, Closed, Clash, ClassStep, Cycle, entry, ClassTable}

@@ -1,12 +1,11 @@
 -- A table whose words, layout and pointers have no fault.
 --
--- In order: `Shaped`; word 0 and the words behind it; the block of a function (`block-arguments`, `block-count`), which ends
+-- In order: word 0 and the words behind it; the block of a function (`block-arguments`, `block-count`), which ends
 -- inside the table (`shaped-laid`); what an argument word names is a node (`child-node-kind`, `shaped-child`); counts are
 -- small (`shaped-degree`). Assumes nothing.
 use mathlib.Core.Path.{_≡_, refl, sym, ap, _∙_}
 use mathlib.Core.Bool.{Bool, true, false, not, _||_}
 use mathlib.Core.List.{List, [], _∷_}
-use mathlib.Core.Option.{none}
 use Prim.Native.Nat.{ℕ, zero, suc, _+_, _≤_, _<_}
 use native.Mathlib.Omega.{arith}
 use borrow.Author.Tests.{eqb-true, eqb-false, leb-true, leb-false}
@@ -18,18 +17,12 @@ use Rattle.words.specs.declared.kind.Kind.{Kind}
 use Rattle.words.specs.declared.kind.Kind.the-variants.{Variable, Constant, Function, Pointer, Count, NoWord}
 use Rattle.graphs.proofs.Classes.{never}
 use Rattle.table.specs.Table.{wordAt, kindAt, contentAt, nodeKind, functionKind, pointerKind, choose, named, degree, childOf, Laid}
-use Rattle.table.specs.Layout.{argumentKind, countKind, item, breakFrom}
-use Rattle.table.specs.Faults.{badKind, badLater, badWord, pointerOrCount, badTarget, badPointer}
+use Rattle.table.specs.Layout.{argumentKind, countKind, item}
+use Rattle.table.specs.Faults.{badKind, badLater, pointerOrCount, badTarget}
+use Rattle.table.specs.Shaped.{Shaped}
 use Rattle.table.proofs.Leaves.{past-end}
 use Rattle.table.proofs.Blocks.{Arguments, Counted, Blocks, whole-begins}
 use Rattle.table.proofs.Children.{NamedChild, named-child, degree-child}
-
--- What a table has to which none of the rows 3, 4 and 5 applies.
-pub record Shaped (t : List ℕ) : Type 0 where
-  pub some-word : 0 < length t
-  pub words : (a : ℕ) → a < length t → badWord t a ≡ true → ⊥
-  pub whole : breakFrom item 1 (drop 1 t) ≡ none
-  pub pointers : (a : ℕ) → a < length t → badPointer t a ≡ true → ⊥
 
 pub inside-kind : (t : List ℕ) (x : ℕ) (test : Kind → Bool) → test NoWord ≡ false → test (kindAt t x) ≡ true → x < length t
 inside-kind t x test fails e = go (leb (length t) x) refl

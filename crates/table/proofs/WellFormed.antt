@@ -17,7 +17,8 @@ use Rattle.table.specs.Layout.{item, breakFrom}
 use Rattle.table.specs.Answers.{Lowest}
 use Rattle.table.specs.Faults.{Job, Row, WORD, LAYOUT, POINTER, LOOP, Fault, word-fault, layout-fault, pointer-fault, loop-fault, checkOrder}
 use Rattle.table.proofs.Children.{kind-head, kind-node, node-kind, named-length, named-child}
-use Rattle.table.proofs.Shape.{Shaped, inside-kind, kind-0, child-node-kind}
+use Rattle.table.specs.Shaped.{Shaped}
+use Rattle.table.proofs.Shape.{inside-kind, kind-0, child-node-kind}
 
 module _ {t : List ℕ} (c : Shaped t) (no-loop : (x : ℕ) → Steps (Child (graphOf t)) x x → ⊥) where
   counted-at : (x : ℕ) (s : Symbol) (cs : List ℕ) → graphOf t .head x ≡ symbol s cs → length cs ≡ s .count

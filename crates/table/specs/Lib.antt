@@ -4,3 +4,4 @@ pub mod Heads
 pub mod Layout
 pub mod Answers
 pub mod Faults
+pub mod Shaped

@@ -1,6 +1,5 @@
 -- `checker::faults::names_and_loops` meets its contract.
 -- Assumes nothing.
-use native.Mathlib.Omega.{arith}
 use borrow.Author.Needs.{needs}
 use Rattle.table.proofs.Shape.{word-0}
 use Rattle.checker.proofs.CheckLaws.{name-stage, loop-stage, pass-stage}

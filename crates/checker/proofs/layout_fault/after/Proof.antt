@@ -1,6 +1,6 @@
 -- `checker::layout_fault::after` meets its contract: one case a thing wanted. Assumes nothing.
 use mathlib.Core.Path.{ap, _∙_}
-use Rattle.table.specs.Layout.{afterItem, more, less}
+use Rattle.table.specs.Layout.{afterItem, more}
 use Rattle.table.specs.Layout.{after as afterWord}
 use borrow.Author.Needs.{needs}
 use Rattle.checker.proofs.layout_fault.after.Statement.{statement}

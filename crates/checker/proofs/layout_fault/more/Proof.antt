@@ -1,6 +1,5 @@
 -- `checker::layout_fault::more` meets its contract, by the two laws of `more`. Assumes nothing.
 use Rattle.checker.proofs.LayoutLaws.{more-none, more-some}
-use borrow.Author.Needs.{needs}
 use Rattle.checker.proofs.layout_fault.more.Statement.{statement}
 use Rattle.checker.proofs.layout_fault.more.Tie as tie
 

@@ -4,7 +4,6 @@ use Prim.Native.Nat.{_*_, _-_}
 use native.Mathlib.Omega.{arith}
 use lib.ListN.{length}
 use borrow.Author.Needs.{needs}
-use Rattle.checker.specs.Names.{FirstRepeated}
 use Rattle.checker.proofs.NameLaws.{NoneYet, Cleared, none-first, none-more, answer-here, answer-nowhere}
 use Rattle.checker.proofs.name_fault.first_repeated_name.Statement.{statement}
 use Rattle.checker.proofs.name_fault.first_repeated_name.Tie as tie

@@ -1,6 +1,6 @@
 -- `checker::shape::shape` meets its contract.
 -- Assumes nothing.
-use mathlib.Core.Path.{_≡_, sym, ap, _∙_}
+use mathlib.Core.Path.{sym, ap, _∙_}
 use native.Mathlib.Omega.{arith}
 use borrow.Author.Needs.{needs}
 use Rattle.checker.specs.Layout.{breakOf}

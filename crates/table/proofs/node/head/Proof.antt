@@ -1,6 +1,6 @@
 -- `table::node::head` meets its contract.
 -- Assumes nothing.
-use mathlib.Core.Path.{sym, ap, refl, _∙_}
+use mathlib.Core.Path.{sym, ap, _∙_}
 use native.Mathlib.Omega.{arith}
 use borrow.Author.Needs.{needs}
 use Rattle.words.specs.declared.head.Head.{Head}
