@@ -13,6 +13,7 @@ use Prim.Native.Nat.{ℕ, _+_, _%_, _<_}
 use native.Mathlib.Decide.{ℕ-discrete}
 use native.Mathlib.Nat.{mod-lt}
 use native.Mathlib.Omega.{arith}
+use borrow.Author.Count.{below-more}
 use Rattle.words.specs.declared.kind.Kind.the-variants.{Variable, NoWord}
 use Rattle.table.specs.Table.{kindAt, contentAt}
 use Rattle.table.specs.Faults.{Repeats}
@@ -20,14 +21,6 @@ use Rattle.checker.specs.Names.{Reach, here, further, Kept, Chains}
 
 kept-later : {t : List ℕ} {a x : ℕ} → Kept t a x → Kept t (a + 1) x
 kept-later k = record { below = omega arith; variable-there = k .variable-there }
-
--- an address below a + 1 is below a or is a
-by-last : (P : ℕ → Type 0) (a : ℕ) → ((v : ℕ) → v < a → P v) → P a → (v : ℕ) → v < a + 1 → P v
-by-last P a before last v h = go (ℕ-discrete a v)
-  where
-    go : Dec (a ≡ v) → P v
-    go (yes e) = subst P e last
-    go (no e) = before v (omega (arith, e))
 
 pub chains-none : (t : List ℕ) (m : ℕ) (head next : ℕ → ℕ) → ((h : ℕ) → h < m → head h ≡ 0) → Chains t m 1 head next
 chains-none t m head next zero-there = record {
@@ -40,9 +33,9 @@ pub chains-pass : {t : List ℕ} {m a : ℕ} {head next : ℕ → ℕ} → Chain
 chains-pass {t} {m} {a} {head} {next} s other = record {
   heads = λ h i. kept-later (s .heads h i);
   links = λ v p q.
-      by-last (λ u. 0 < u → kindAt t u ≡ Variable → Kept t u (next u)) a (λ u i j. s .links u j i) (λ j k. absurd (other k)) v q p;
+      below-more (λ u. 0 < u → kindAt t u ≡ Variable → Kept t u (next u)) a (λ u i j. s .links u j i) (λ j k. absurd (other k)) v q p;
   all = λ b p q.
-      by-last (λ u. 0 < u → kindAt t u ≡ Variable → Reach next (head (contentAt t u % m)) u) a (λ u i j. s .all u j i) (λ j k. absurd (other k)) b q p;
+      below-more (λ u. 0 < u → kindAt t u ≡ Variable → Reach next (head (contentAt t u % m)) u) a (λ u i j. s .all u j i) (λ j k. absurd (other k)) b q p;
 }
 
 -- A variable at a is put in front of the chain that begins at h.
@@ -70,11 +63,11 @@ module _ {t : List ℕ} {m a h : ℕ} {head next head' next' : ℕ → ℕ} (s :
   chains-more pos here-slot small variable-here = record {
     heads = λ g i. heads-at g i (ℕ-discrete g h);
     links = λ v p q.
-        by-last (λ u. 0 < u → kindAt t u ≡ Variable → Kept t u (next' u)) a
+        below-more (λ u. 0 < u → kindAt t u ≡ Variable → Kept t u (next' u)) a
         (λ u i j k. subst (Kept t u) (sym (f .other-links u (λ e. omega arith))) (s .links u j i k))
         (λ j k. subst (Kept t a) (sym (f .then)) (s .heads h small)) v q p;
     all = λ b p q.
-        by-last (λ u. 0 < u → kindAt t u ≡ Variable → Reach next' (head' (contentAt t u % m)) u) a
+        below-more (λ u. 0 < u → kindAt t u ≡ Variable → Reach next' (head' (contentAt t u % m)) u) a
         (λ u i j k. older u i j k (ℕ-discrete (contentAt t u % m) h))
         (λ j k. subst (λ x. Reach next' x a) (sym (ap head' (sym here-slot) ∙ f .first)) here) b q p;
   }
