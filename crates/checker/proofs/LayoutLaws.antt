@@ -16,17 +16,19 @@ use lib.ListN.{length, drop, drop-of-length-le}
 use lib.Seq.{drop-cons}
 use Rattle.words.specs.declared.kind.Kind.{Kind}
 use Rattle.table.specs.Table.{wordAt, kindAt}
+use Rattle.table.proofs.Blocks as blocks
 use Rattle.table.specs.Layout.{Wanted, item, arguments, canStand, after, atEnd, breakFrom, more, less}
 
 module _ (t : List ℕ) (a : ℕ) (wanted : Wanted) where
   pub break-stops : a < length t → canStand wanted (kindAt t a) ≡ false → breakFrom wanted a (drop a t) ≡ some a
-  unfolding breakFrom
-  break-stops h e = rw (drop-cons t a 0 h, breakFrom, e)
+  break-stops h e = ap (breakFrom wanted a) (drop-cons t a 0 h) ∙ blocks.break-stops wanted a (wordAt t a) (drop (suc a) t) e
 
   pub break-stands : a < length t → canStand wanted (kindAt t a) ≡ true
       → breakFrom wanted a (drop a t) ≡ breakFrom (after wanted (wordAt t a)) (a + 1) (drop (a + 1) t)
-  unfolding breakFrom
-  break-stands h e = rw (drop-cons t a 0 h, breakFrom, e, add-one a)
+  break-stands h e =
+      ap (breakFrom wanted a) (drop-cons t a 0 h)
+      ∙ blocks.break-stands wanted a (wordAt t a) (drop (suc a) t) e
+      ∙ ap (λ (n : ℕ). breakFrom (after wanted (wordAt t a)) (a + 1) (drop n t)) (sym (add-one a))
 
   pub break-ends : length t ≤ a → breakFrom wanted a (drop a t) ≡ atEnd wanted a
   unfolding breakFrom
