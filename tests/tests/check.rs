@@ -296,7 +296,7 @@ fn loops() {
         pointer(1),
     ]);
     assert_eq!(check(&table), (LOOP, 0));
-    // shared and not looping: two pointers to one node, from two functions
+    // shared and not looping: two pointers of one function to one node
     let table = words(&[
         function(1),
         argument_count(2),

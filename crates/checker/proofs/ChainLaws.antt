@@ -17,14 +17,14 @@ use borrow.Author.Count.{below-more}
 use Rattle.words.specs.declared.kind.Kind.the-variants.{Variable, NoWord}
 use Rattle.table.specs.Table.{kindAt, contentAt}
 use Rattle.table.specs.Faults.{Repeats}
-use Rattle.checker.specs.Names.{Reach, here, further, Kept, Chains}
+use Rattle.checker.specs.Names.{Reach, here, further, InChain, Chains}
 
-kept-later : {t : List ℕ} {a x : ℕ} → Kept t a x → Kept t (a + 1) x
+kept-later : {t : List ℕ} {a x : ℕ} → InChain t a x → InChain t (a + 1) x
 kept-later k = record { below = omega arith; variable-there = k .variable-there }
 
 pub chains-none : (t : List ℕ) (m : ℕ) (head next : ℕ → ℕ) → ((h : ℕ) → h < m → head h ≡ 0) → Chains t m 1 head next
 chains-none t m head next zero-there = record {
-  heads = λ h i. subst (Kept t 1) (sym (zero-there h i)) (record { below = omega arith; variable-there = λ p. absurd (omega arith) });
+  heads = λ h i. subst (InChain t 1) (sym (zero-there h i)) (record { below = omega arith; variable-there = λ p. absurd (omega arith) });
   links = λ v p q k. absurd (omega arith);
   all = λ b p q k. absurd (omega arith);
 }
@@ -33,7 +33,7 @@ pub chains-pass : {t : List ℕ} {m a : ℕ} {head next : ℕ → ℕ} → Chain
 chains-pass {t} {m} {a} {head} {next} s other = record {
   heads = λ h i. kept-later (s .heads h i);
   links = λ v p q.
-      below-more (λ u. 0 < u → kindAt t u ≡ Variable → Kept t u (next u)) a (λ u i j. s .links u j i) (λ j k. absurd (other k)) v q p;
+      below-more (λ u. 0 < u → kindAt t u ≡ Variable → InChain t u (next u)) a (λ u i j. s .links u j i) (λ j k. absurd (other k)) v q p;
   all = λ b p q.
       below-more (λ u. 0 < u → kindAt t u ≡ Variable → Reach next (head (contentAt t u % m)) u) a (λ u i j. s .all u j i) (λ j k. absurd (other k)) b q p;
 }
@@ -47,13 +47,13 @@ pub record InFront (m a h : ℕ) (head next head' next' : ℕ → ℕ) : Type 0 
 
 module _ {t : List ℕ} {m a h : ℕ} {head next head' next' : ℕ → ℕ} (s : Chains t m a head next) (f : InFront m a h head next head' next') where
   -- a way among older addresses stays
-  reach-stays : {v b : ℕ} → Reach next v b → Kept t a v → Reach next' v b
+  reach-stays : {v b : ℕ} → Reach next v b → InChain t a v → Reach next' v b
   reach-stays here k = here
   reach-stays {v} {b} (further p r) k =
       further p (
       subst (λ x. Reach next' x b) (sym (f .other-links v (λ e. omega arith))) (
       reach-stays r (
-      let l : Kept t v (next v) = s .links v p (k .below) (k .variable-there p) in
+      let l : InChain t v (next v) = s .links v p (k .below) (k .variable-there p) in
       record { below = omega arith; variable-there = l .variable-there }
       )
       )
@@ -63,19 +63,19 @@ module _ {t : List ℕ} {m a h : ℕ} {head next head' next' : ℕ → ℕ} (s :
   chains-more pos here-slot small variable-here = record {
     heads = λ g i. heads-at g i (ℕ-discrete g h);
     links = λ v p q.
-        below-more (λ u. 0 < u → kindAt t u ≡ Variable → Kept t u (next' u)) a
-        (λ u i j k. subst (Kept t u) (sym (f .other-links u (λ e. omega arith))) (s .links u j i k))
-        (λ j k. subst (Kept t a) (sym (f .then)) (s .heads h small)) v q p;
+        below-more (λ u. 0 < u → kindAt t u ≡ Variable → InChain t u (next' u)) a
+        (λ u i j k. subst (InChain t u) (sym (f .other-links u (λ e. omega arith))) (s .links u j i k))
+        (λ j k. subst (InChain t a) (sym (f .then)) (s .heads h small)) v q p;
     all = λ b p q.
         below-more (λ u. 0 < u → kindAt t u ≡ Variable → Reach next' (head' (contentAt t u % m)) u) a
         (λ u i j k. older u i j k (ℕ-discrete (contentAt t u % m) h))
         (λ j k. subst (λ x. Reach next' x a) (sym (ap head' (sym here-slot) ∙ f .first)) here) b q p;
   }
     where
-      heads-at : (g : ℕ) → g < m → Dec (g ≡ h) → Kept t (a + 1) (head' g)
+      heads-at : (g : ℕ) → g < m → Dec (g ≡ h) → InChain t (a + 1) (head' g)
       heads-at g i (yes e) =
-          subst (Kept t (a + 1)) (sym (ap head' e ∙ f .first)) (record { below = omega arith; variable-there = λ p. variable-here })
-      heads-at g i (no e) = subst (Kept t (a + 1)) (sym (f .other-heads g i e)) (kept-later (s .heads g i))
+          subst (InChain t (a + 1)) (sym (ap head' e ∙ f .first)) (record { below = omega arith; variable-there = λ p. variable-here })
+      heads-at g i (no e) = subst (InChain t (a + 1)) (sym (f .other-heads g i e)) (kept-later (s .heads g i))
 
       older : (u : ℕ) → u < a → 0 < u → kindAt t u ≡ Variable → Dec (contentAt t u % m ≡ h) → Reach next' (head' (contentAt t u % m)) u
       older u i j k (yes e) =
@@ -95,17 +95,17 @@ module _ {t : List ℕ} {m a h : ℕ} {head next head' next' : ℕ → ℕ} (s :
 -- ---- a walk
 
 pub record Walk (t : List ℕ) (a label : ℕ) (next : ℕ → ℕ) (v : ℕ) : Type 0 where
-  pub kept : Kept t a v
+  pub kept : InChain t a v
   pub left : (b : ℕ) → 0 < b → b < a → kindAt t b ≡ Variable → contentAt t b ≡ label → Reach next v b
 
 module _ {t : List ℕ} {m a : ℕ} {head next : ℕ → ℕ} (s : Chains t m a head next) where
   pub walk-begins : {label h v : ℕ} → h ≡ label % m → h < m → v ≡ head h → Walk t a label next v
   walk-begins {label} {h} {v} slot small e = record {
-    kept = subst (Kept t a) (sym e) (s .heads h small);
+    kept = subst (InChain t a) (sym e) (s .heads h small);
     left = λ b p q k l. subst (λ x. Reach next x b) (ap (λ x. head (x % m)) l ∙ ap head (sym slot) ∙ sym e) (s .all b p q k);
   }
 
-  link : {label v : ℕ} → Walk t a label next v → (v ≡ 0 → ⊥) → Kept t v (next v)
+  link : {label v : ℕ} → Walk t a label next v → (v ≡ 0 → ⊥) → InChain t v (next v)
   link {label} {v} w other = s .links v (omega (arith, other)) (w .kept .below) (w .kept .variable-there (omega (arith, other)))
 
   pub walk-falls : {label v u : ℕ} → Walk t a label next v → (v ≡ 0 → ⊥) → u ≡ next v → u < v
@@ -114,7 +114,7 @@ module _ {t : List ℕ} {m a : ℕ} {head next : ℕ → ℕ} (s : Chains t m a 
   pub walk-goes-on :
       {label v u : ℕ} → Walk t a label next v → (v ≡ 0 → ⊥) → (contentAt t v ≡ label → ⊥) → u ≡ next v → Walk t a label next u
   walk-goes-on {label} {v} {u} w other differs e = record {
-    kept = subst (Kept t a) (sym e) (let l = link w other in record { below = omega arith; variable-there = l .variable-there });
+    kept = subst (InChain t a) (sym e) (let l = link w other in record { below = omega arith; variable-there = l .variable-there });
     left = λ b p q k l. subst (λ x. Reach next x b) (sym e) (past (w .left b p q k l) differs l);
   }
     where

@@ -122,28 +122,22 @@ shape-passed {t} {class} {work} {class-after} {work-after} shape {r} p by stage 
 
 -- ---- size and room
 
--- no row from 3 on answers 1 or 2
+-- no row from 3 on answers a number that is above 0 and below 3
+never-early : {job : Job} (a p : ℕ) → 0 < a → a < 3 → Answered number (Fault job) (shapeRows ++ nameRows) a p → ⊥
+unfolding number
+never-early a p l u (inl (e, x)) = omega arith
+never-early a p l u (inr (w, inl (e, x))) = omega arith
+never-early a p l u (inr (w, inr (s, inl (e, x)))) = omega arith
+never-early a p l u (inr (w, inr (s, inr (q, inl (e, x))))) = omega arith
+never-early a p l u (inr (w, inr (s, inr (q, inr (n, inl (e, x)))))) = omega arith
+never-early a p l u (inr (w, inr (s, inr (q, inr (n, inr (o, (e, x))))))) = omega arith
+
+-- so the buffers are left at zero
 late : {t : List ℕ} (r : Checked) → ByRows (shapeRows ++ nameRows) t r → (n : ℕ) (row : List ℕ) → left r n row ≡ zeroed n row
 unfolding number left
 late Accepted by n row = refl
-late {t} Size by n row = absurd (go (by [] 0 0))
-  where
-    go : Answered number (Fault (record { table = t; list = []; class-room = 0; work-room = 0 })) (shapeRows ++ nameRows) 1 0 → ⊥
-    go (inl (e, x)) = omega arith
-    go (inr (a, inl (e, x))) = omega arith
-    go (inr (a, inr (b, inl (e, x)))) = omega arith
-    go (inr (a, inr (b, inr (c, inl (e, x))))) = omega arith
-    go (inr (a, inr (b, inr (c, inr (d, inl (e, x)))))) = omega arith
-    go (inr (a, inr (b, inr (c, inr (d, inr (f, (e, x))))))) = omega arith
-late {t} Room by n row = absurd (go (by [] 0 0))
-  where
-    go : Answered number (Fault (record { table = t; list = []; class-room = 0; work-room = 0 })) (shapeRows ++ nameRows) 2 0 → ⊥
-    go (inl (e, x)) = omega arith
-    go (inr (a, inl (e, x))) = omega arith
-    go (inr (a, inr (b, inl (e, x)))) = omega arith
-    go (inr (a, inr (b, inr (c, inl (e, x))))) = omega arith
-    go (inr (a, inr (b, inr (c, inr (d, inl (e, x)))))) = omega arith
-    go (inr (a, inr (b, inr (c, inr (d, inr (f, (e, x))))))) = omega arith
+late Size by n row = absurd (never-early 1 0 (omega arith) (omega arith) (by [] 0 0))
+late Room by n row = absurd (never-early 2 0 (omega arith) (omega arith) (by [] 0 0))
 late (Word a) by n row = refl
 late (Layout a) by n row = refl
 late (Pointer a) by n row = refl

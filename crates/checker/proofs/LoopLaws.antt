@@ -1,15 +1,15 @@
 -- The search for cycles, with each node its own class, finds the loops of a table.
 --
 -- In order: the row of own classes; it can be searched (`own-searchable`); ways of its net are children (`way-child`,
--- `child-way`), so what the search says is true of the table (`loops-found`); what is kept (`kept-behind`).
+-- `child-way`), so what the search says is true of the table (`loops-found`); with what is kept, `loop-search`.
 -- Assumes nothing.
 use mathlib.Core.Path.{_≡_, refl, sym, ap, _∙_, subst}
 use mathlib.Core.Bool.{Bool, true, false}
 use mathlib.Core.List.{List, _++_}
-use Prim.Native.Nat.{ℕ, zero, suc, _+_, _-_, _*_, _≤_, _<_}
+use Prim.Native.Nat.{ℕ, zero, suc, _+_, _*_, _≤_, _<_}
 use native.Mathlib.Omega.{arith}
-use lib.ListN.{length, getD, drop, replicate, length-append, length-replicate, List·getD-append}
-use lib.Seq.{drop-at, drop-drop}
+use lib.ListN.{length, getD, drop, length-append, List·getD-append}
+use Rattle.rows.proofs.Laws.{behind-stays, behind-cleared}
 use Rattle.graphs.specs.Graph.{Child}
 use Rattle.graphs.specs.Partition.{entry}
 use Rattle.graphs.proofs.Finite.{steps-map}
@@ -77,16 +77,6 @@ module _ (t row rest : List ℕ) (own : row ≡ counting 0 (length t) ++ rest) w
 
 -- ---- what is kept
 
--- what stands behind a front that was replaced
-pub kept-behind : (front row : List ℕ) (k m : ℕ) → length front ≡ k → k ≤ m → drop m (front ++ drop k row) ≡ drop m row
-kept-behind front row k m e h =
-    let j : k + (m - k) ≡ m = omega arith in
-    ap (λ (i : ℕ). drop i (front ++ drop k row)) (sym j)
-    ∙ sym (drop-drop (m - k) k (front ++ drop k row))
-    ∙ ap (drop (m - k)) (drop-at front (drop k row) k e)
-    ∙ drop-drop (m - k) k row
-    ∙ ap (λ (i : ℕ). drop i row) j
-
 pub loop-search : {t class work class-after work-after : List ℕ} {found : Bool} → Roomy t class work → Shaped t
     → class-after ≡ counting 0 (length t) ++ drop (length t) class → Searched t class-after work found work-after → LoopSearch t class work found class-after work-after
 loop-search {t} {class} {work} {class-after} {work-after} {found} roomy shaped own searched =
@@ -94,9 +84,9 @@ loop-search {t} {class} {work} {class-after} {work-after} {found} roomy shaped o
       truth = loops-found t class-after (drop (length t) class) own shaped found (searched .truth);
       kept =
           record {
-            class-kept = ap (drop (length t)) own ∙ kept-behind (counting 0 (length t)) class (length t) (length t) (counting-length 0 (length t)) (omega arith);
+            class-kept = ap (drop (length t)) own ∙ behind-stays (counting 0 (length t)) class (length t) (length t) (counting-length 0 (length t)) (omega arith);
             work-kept =
                 ap (drop (4 * length t)) (searched .cleared)
-                ∙ kept-behind (replicate (2 * length t) 0) work (2 * length t) (4 * length t) (length-replicate (2 * length t) 0) (omega arith);
+                ∙ behind-cleared work (2 * length t) (4 * length t) (omega arith);
           };
     }

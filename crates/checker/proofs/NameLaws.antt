@@ -10,9 +10,10 @@ use mathlib.Core.Bool.{Bool, true, false, true≢false}
 use mathlib.Core.List.{List, _++_}
 use Prim.Native.Nat.{ℕ, _+_, _*_, _%_, _≤_, _<_}
 use native.Mathlib.Omega.{arith}
-use lib.ListN.{length, getD, set, drop, replicate, length-set, length-append, length-replicate, length-drop, getD-replicate, List·getD-append}
-use lib.Seq.{getD-set-same, getD-set-other, drop-set-lt, drop-at}
+use lib.ListN.{length, getD, set, drop, replicate, length-set, length-append, length-replicate, length-drop}
+use lib.Seq.{getD-set-same, getD-set-other, drop-set-lt}
 use borrow.Author.Count.{below-more}
+use Rattle.rows.proofs.Laws.{behind-cleared, cleared-zero}
 use Rattle.words.specs.Word.{kindOf}
 use Rattle.words.specs.declared.kind.Kind.{Kind}
 use Rattle.words.specs.declared.kind.Kind.the-variants.{Variable, Constant, Function, Pointer, Count, NoWord}
@@ -120,13 +121,10 @@ module _ {n : ℕ} {entry cleared : List ℕ} (c : Cleared n entry cleared) wher
   cleared-length = ap length (c .row) ∙ simp (length-append, length-replicate, length-drop) (omega (arith, c .fits))
 
   cleared-rest : drop n cleared ≡ drop n entry
-  cleared-rest = ap (drop n) (c .row) ∙ drop-at (replicate n 0) (drop n entry) n (length-replicate n 0)
+  cleared-rest = ap (drop n) (c .row) ∙ behind-cleared entry n n (omega arith)
 
-  cleared-zero : (h : ℕ) → h < n → getD cleared h 0 ≡ 0
-  cleared-zero h i =
-      ap (λ l. getD l h 0) (c .row)
-      ∙ List·getD-append (replicate n 0) (drop n entry) 0 h (subst (λ k. h < k) (sym (length-replicate n 0)) i)
-      ∙ getD-replicate n h 0 0 i
+  zero-below : (h : ℕ) → h < n → getD cleared h 0 ≡ 0
+  zero-below h i = ap (λ l. getD l h 0) (c .row) ∙ cleared-zero entry n h i
 
 pub none-first :
     {t entry cleared : List ℕ} →
@@ -142,7 +140,7 @@ none-first {t} {entry} {cleared} c some small e = record {
       no-variable = ap kindOf e;
       small = small;
       room = omega (arith, c .fits, cleared-length c);
-      chains = chains-none t (3 * length t) (headIn cleared) (nextIn t cleared) (λ h i. cleared-zero c h (omega arith));
+      chains = chains-none t (3 * length t) (headIn cleared) (nextIn t cleared) (λ h i. zero-below c h (omega arith));
     };
     rest-stays = refl;
     same-length = refl;

@@ -1,16 +1,15 @@
 -- The tests of one word, from what was read of it. In order:
 --   first-word, later-word   whether a word is bad, at address 0 and after it
---   first-is-zero            a first word that is not bad is the number 0
 --   target-..                whether a pointer may name an address: 0, one outside the table, one inside
 -- Assumes nothing.
 use mathlib.Core.Path.{_≡_, refl, ap, _∙_}
-use mathlib.Core.Bool.{Bool, true, false, not}
+use mathlib.Core.Bool.{Bool, true, not}
 use mathlib.Core.List.{List}
 use Prim.Native.Nat.{ℕ, zero, suc, _≤_, _<_}
 use native.Mathlib.Omega.{arith}
 use lib.Dec.{eqb}
 use lib.ListN.{length}
-use borrow.Author.Tests.{eqb-true, eq-eqb, ne-eqb, le-leb, lt-leb, not-false}
+use borrow.Author.Tests.{eq-eqb, ne-eqb, le-leb, lt-leb}
 use Rattle.words.specs.declared.kind.Kind.{Kind}
 use Rattle.table.specs.Table.{wordAt, kindAt, contentAt}
 use Rattle.table.specs.Faults.{badKind, badLater, badTarget, pointerOrCount}
@@ -30,10 +29,6 @@ pub later-word :
 unfolding badLater
 later-word t zero other k c e = absurd (other refl)
 later-word t (suc a) other k c e = e ∙ (λ i. badKind (k i) (c i))
-
-pub first-is-zero : (t : List ℕ) → badLater 0 t ≡ false → wordAt t 0 ≡ 0
-unfolding badLater
-first-is-zero t e = eqb-true (wordAt t 0) 0 (not-false _ e)
 
 module _ (t : List ℕ) (b : ℕ) where
   pub target-nothing : b ≡ 0 → true ≡ badTarget Kind.Pointer b t

@@ -39,14 +39,14 @@ pub data Reach (next : ℕ → ℕ) : ℕ → ℕ → Type 0 where
   further : {v b : ℕ} → 0 < v → Reach next (next v) b → Reach next v b
 
 -- what stands in a chain: 0, or a variable's address, below a
-pub record Kept (t : List ℕ) (a x : ℕ) : Type 0 where
+pub record InChain (t : List ℕ) (a x : ℕ) : Type 0 where
   pub below : x < a
   pub variable-there : 0 < x → kindAt t x ≡ Variable
 
 -- The variables at the addresses from 1 to below a are in m chains, each in the chain of its label.
 pub record Chains (t : List ℕ) (m a : ℕ) (head next : ℕ → ℕ) : Type 0 where
-  pub heads : (h : ℕ) → h < m → Kept t a (head h)
-  pub links : (v : ℕ) → 0 < v → v < a → kindAt t v ≡ Variable → Kept t v (next v)
+  pub heads : (h : ℕ) → h < m → InChain t a (head h)
+  pub links : (v : ℕ) → 0 < v → v < a → kindAt t v ≡ Variable → InChain t v (next v)
   pub all : (b : ℕ) → 0 < b → b < a → kindAt t b ≡ Variable → Reach next (head (contentAt t b % m)) b
 
 -- ---- chains in the work row

@@ -8,8 +8,8 @@ use mathlib.Core.List.{List, _++_}
 use Prim.Native.Nat.{ℕ, _+_, _*_, _≤_, _<_}
 use native.Mathlib.Decide.{ℕ-discrete}
 use native.Mathlib.Omega.{arith}
-use lib.ListN.{length, getD, set, drop, replicate, length-replicate, getD-replicate, List·getD-append}
-use lib.Seq.{drop-at}
+use lib.ListN.{length, getD, set, drop, replicate}
+use Rattle.rows.proofs.Laws.{behind-cleared, cleared-zero}
 use Rattle.graphs.specs.Partition.{entry}
 use Rattle.cycles.specs.declared.path.Turn.{Turn}
 use Rattle.cycles.specs.Net.{Net, Way, netOf, Searchable, Searched}
@@ -124,9 +124,7 @@ module _ {t row : List ℕ} (work : List ℕ) (asked : Searchable t row (length 
   started {work′} cleared long =
       start (netOf t row) work′ (omega (arith, asked .work-enough))
       (λ x h.
-      ap (λ (v : List ℕ). getD v x 0) cleared
-      ∙ List·getD-append (replicate (2 * length t) 0) (drop (2 * length t) work) 0 x (omega (arith, length-replicate {A = ℕ} (2 * length t) 0))
-      ∙ getD-replicate (2 * length t) x 0 0 (omega arith))
+      ap (λ (v : List ℕ). getD v x 0) cleared ∙ cleared-zero work (2 * length t) x (omega arith))
 
 -- after the last one
 pub searched : {t row u v w x : List ℕ} {answer : Bool} → v ≡ replicate (2 * length t) 0 ++ drop (2 * length t) u
@@ -134,11 +132,8 @@ pub searched : {t row u v w x : List ℕ} {answer : Bool} → v ≡ replicate (2
 searched {t} {row} {u} {v} first told last =
     record {
       truth = told .truth;
-      cleared = last ∙ ap (λ (l : List ℕ). replicate n 0 ++ l) (told .behind ∙ ap (drop n) first ∙ behind);
+      cleared = last ∙ ap (λ (l : List ℕ). replicate n 0 ++ l) (told .behind ∙ ap (drop n) first ∙ behind-cleared u n n (omega arith));
     }
   where
     n : ℕ
     n = 2 * length t
-
-    behind : drop n (replicate n 0 ++ drop n u) ≡ drop n u
-    behind = drop-at (replicate n 0) (drop n u) n (length-replicate n 0)

@@ -5,6 +5,7 @@
 --     a number byte by byte     fetched, numberAt-fetched (a read); placed-sets (a write)
 --     a row put over a part     length-placed, numberAt-placed, numberAt-placed-before, numberAt-placed-after
 --     a row from the front      Built, built-none, built-more, built-all: every loop that clears, fills or copies
+--     behind the front          behind-stays, behind-cleared, cleared-zero: what a replaced or cleared front leaves
 --     one answer                equations-agree
 --
 -- Not here: the laws of `take`, `drop`, `set`, `sets` and `_++_` (`lib.Seq`), and those of `replicate` (`lib.ListN`).
@@ -15,7 +16,7 @@ use native.Mathlib.Nat.{pow-zero, pow-suc}
 use native.Mathlib.Numerals.{add-one}
 use native.Mathlib.Omega.{arith}
 use mathlib.Core.List.{List, [], _∷_, _++_, append-assoc}
-use lib.ListN.{length, take, drop, getD, set, length-set, length-append, length-take, length-drop, take-append-drop}
+use lib.ListN.{length, take, drop, getD, set, replicate, length-replicate, getD-replicate, List·getD-append, length-set, length-append, length-take, length-drop, take-append-drop}
 use lib.Seq.{drop-cons, take-suc, append-snoc, set-at, take-at, drop-at, length-take-le, take-all, take-append-le, drop-append-le, drop-append-add, drop-drop, sets, sets-eq}
 use Rattle.rows.specs.LittleEndian.{number, bytesOf, numberAt, AllBytes}
 use Rattle.rows.specs.Placed.{placed}
@@ -154,6 +155,26 @@ module _ {A : Type 0} where
       let end : i ≡ n = omega arith in
       let all : length whole ≤ i = omega arith in
       built .so-far ∙ rw (take-all i whole all, end)
+
+-- ---- behind the front
+
+-- what stands behind a front that was replaced stays
+pub behind-stays {ℓ} : {A : Type ℓ} (front row : List A) (k m : ℕ) → length front ≡ k → k ≤ m → drop m (front ++ drop k row) ≡ drop m row
+behind-stays front row k m e h =
+    let j : k + (m - k) ≡ m = omega arith in
+    ap (λ (i : ℕ). drop i (front ++ drop k row)) (sym j)
+    ∙ sym (drop-drop (m - k) k (front ++ drop k row))
+    ∙ ap (drop (m - k)) (drop-at front (drop k row) k e)
+    ∙ drop-drop (m - k) k row
+    ∙ ap (λ (i : ℕ). drop i row) j
+
+pub behind-cleared : (row : List ℕ) (k m : ℕ) → k ≤ m → drop m (replicate k 0 ++ drop k row) ≡ drop m row
+behind-cleared row k m h = behind-stays (replicate k 0) row k m (length-replicate k 0) h
+
+-- an entry of a cleared front is 0
+pub cleared-zero : (row : List ℕ) (n i : ℕ) → i < n → getD (replicate n 0 ++ drop n row) i 0 ≡ 0
+cleared-zero row n i h =
+    List·getD-append (replicate n 0) (drop n row) 0 i (omega (arith, length-replicate {A = ℕ} n 0)) ∙ getD-replicate n i 0 0 h
 
 -- ---- one answer
 
