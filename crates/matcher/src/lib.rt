@@ -1,0 +1,2 @@
+// The matcher: a list of pairs against a table.
+pub mod answer;
