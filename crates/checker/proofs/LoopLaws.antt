@@ -13,8 +13,8 @@ use Rattle.rows.proofs.Laws.{behind-stays, behind-cleared}
 use Rattle.graphs.specs.Graph.{Child}
 use Rattle.graphs.specs.Partition.{entry}
 use Rattle.graphs.proofs.Finite.{steps-map}
-use Rattle.table.specs.Table.{choose, contentAt, nodeKind, graphOf, degree, childOf}
-use Rattle.table.proofs.Children.{NamedChild, named-child, degree-child}
+use Rattle.table.specs.Table.{nodeKind, graphOf, degree, childOf}
+use Rattle.table.proofs.Children.{NamedChild, named-child, child-degree, degree-child}
 use Rattle.table.specs.Shaped.{Shaped}
 use Rattle.table.proofs.Shape.{inside-kind, shaped-laid, shaped-degree, shaped-child}
 use Rattle.cycles.specs.Net.{Way, netOf, Returns, Searchable, Searched}
@@ -61,15 +61,10 @@ module _ (t row rest : List ℕ) (own : row ≡ counting 0 (length t) ++ rest) w
     way-child : (x y : ℕ) → Way (netOf t row) x y → Child (graphOf t) x y
     way-child x y (i, h, e) = subst (Child (graphOf t) x) (sym (own-child x i h) ∙ e) (degree-child t x i h)
 
-    within-degree : {x y : ℕ} (c : NamedChild t x y) → c .place < degree t x
-    unfolding degree choose
-    within-degree {x} c =
-        omega (arith, ap (λ (b : Bool). choose b (contentAt t (x + 1)) 0) (c .function-there), c .within)
-
     child-way : (x y : ℕ) → Child (graphOf t) x y → Way (netOf t row) x y
     child-way x y d =
         let c : NamedChild t x y = named-child t x y d in
-        (c .place, within-degree c, own-child x (c .place) (within-degree c) ∙ c .is)
+        (c .place, child-degree t c, own-child x (c .place) (child-degree t c) ∙ c .is)
 
     pub loops-found : (found : Bool) → Returns found (netOf t row) → Loops found t
     loops-found true (x, s) = (x, steps-map way-child s)

@@ -95,6 +95,37 @@ module _ {S : Symbols} {G : Graph S} {pairs : List Pair} {table : List ℕ} (wf 
   has-node : {x y : ℕ} → Child G (entry table x) y → Node G x
   has-node {x} (i, d) = ⊎-elim (λ n. n) (λ e. absurd (wf .none-at-0 (subst (Node G) (c .empty x e) (symbol-node (d .stands))))) (node-or-nothing G x)
 
+  module _ (no-clash : Clash G pairs → ⊥) where
+    one-symbol : {x y : ℕ} {s t : S .Symbol} {xs ys : List ℕ} → Same G pairs x y → G .head x ≡ symbol s xs → G .head y ≡ symbol t ys → s ≡ t
+    one-symbol {x} {y} {s} {t} {xs} {ys} together ex ey = go (S .decide s t)
+      where
+        go : Dec (s ≡ t) → s ≡ t
+        go (yes e) = e
+        go (no e) =
+            absurd
+            (no-clash
+            (record {
+              left = x;
+              right = y;
+              together = together;
+              left-symbol = s;
+              left-children = xs;
+              right-symbol = t;
+              right-children = ys;
+              left-head = ex;
+              right-head = ey;
+              different = e;
+            }))
+
+    -- the class of a non-variable is named by a node with the same symbol
+    pub name-symbol : {x : ℕ} {s : S .Symbol} {xs : List ℕ} → G .head x ≡ symbol s xs → (ys : List ℕ) × (G .head (entry table x) ≡ symbol s ys)
+    name-symbol {x} {s} {xs} ex = go (c .named x (symbol-node ex))
+      where
+        go : Named G pairs x (entry table x) → (ys : List ℕ) × (G .head (entry table x) ≡ symbol s ys)
+        go (by-non-variable {s = t} {children = ys} together e low) =
+            (ys, e ∙ ap (λ (u : S .Symbol). symbol u ys) (sym (one-symbol together ex e)))
+        go (by-variable together only low) = let v : G .head x ≡ variable = only x (itself (symbol-node ex)) in never (cc)
+
   module _ (no-cycle : Cycle G pairs → ⊥) where
     pub answer-unfolds : (x : ℕ) → Node G x → answer G table x ≡ grown (answer G table) (entry table x) (G .head (entry table x))
     unfolding answer
@@ -124,36 +155,6 @@ module _ {S : Symbols} {G : Graph S} {pairs : List Pair} {table : List ℕ} (wf 
         ∙ sym (answer-unfolds y (n .1))
 
     module _ (no-clash : Clash G pairs → ⊥) where
-      one-symbol : {x y : ℕ} {s t : S .Symbol} {xs ys : List ℕ} → Same G pairs x y → G .head x ≡ symbol s xs → G .head y ≡ symbol t ys → s ≡ t
-      one-symbol {x} {y} {s} {t} {xs} {ys} together ex ey = go (S .decide s t)
-        where
-          go : Dec (s ≡ t) → s ≡ t
-          go (yes e) = e
-          go (no e) =
-              absurd
-              (no-clash
-              (record {
-                left = x;
-                right = y;
-                together = together;
-                left-symbol = s;
-                left-children = xs;
-                right-symbol = t;
-                right-children = ys;
-                left-head = ex;
-                right-head = ey;
-                different = e;
-              }))
-
-      -- the class of a non-variable is named by a node with the same symbol
-      name-symbol : {x : ℕ} {s : S .Symbol} {xs : List ℕ} → G .head x ≡ symbol s xs → (ys : List ℕ) × (G .head (entry table x) ≡ symbol s ys)
-      name-symbol {x} {s} {xs} ex = go (c .named x (symbol-node ex))
-        where
-          go : Named G pairs x (entry table x) → (ys : List ℕ) × (G .head (entry table x) ≡ symbol s ys)
-          go (by-non-variable {s = t} {children = ys} together e low) =
-              (ys, e ∙ ap (λ (u : S .Symbol). symbol u ys) (sym (one-symbol together ex e)))
-          go (by-variable together only low) = let v : G .head x ≡ variable = only x (itself (symbol-node ex)) in never (cc)
-
       -- Where σ gives each variable its answer, σ of the term below a node is the node's answer. The step for variables may
       -- use what is known further down.
       resolved : (σ : Replacement S)
@@ -165,7 +166,7 @@ module _ {S : Symbols} {G : Graph S} {pairs : List Pair} {table : List ℕ} (wf 
           at : (x : ℕ) → Node G x → ((y : ℕ) → ClassStep G pairs x y → apply σ (below G y) ≡ answer G table y) → Node G x → apply σ (below G x) ≡ answer G table x
           at x n down (variable-node e) = apply-below-variable wf σ x e ∙ on-variables x e down
           at x n down (symbol-node {s} {children = xs} e) =
-              let named : (ys : List ℕ) × (G .head (entry table x) ≡ symbol s ys) = name-symbol e in
+              let named : (ys : List ℕ) × (G .head (entry table x) ≡ symbol s ys) = name-symbol no-clash e in
               apply-below-symbol wf σ x e
               ∙ ap (app s)
               (each-agrees (λ y. apply σ (below G y)) (answer G table) xs (named .0)

@@ -1,6 +1,7 @@
 -- Nodes and children of a table's graph, by the words.
 --
--- In order: heads and nodes by kind (`kind-node`, `node-kind`); children by place (`named-child`, and back, `degree-child`).
+-- In order: heads and nodes by kind (`kind-node`, `node-kind`); children by place (`named-child`, `child-degree`, and back,
+-- `degree-child`).
 -- Assumes nothing.
 use mathlib.Core.Path.{_≡_, refl, sym, ap, _∙_}
 use mathlib.Core.Bool.{Bool, true, false}
@@ -98,6 +99,10 @@ named-child t x y (i, c) = go (kindAt t x) refl
     go Pointer q = no-symbol (kind-head t x q) (λ s cs e. never (cc))
     go Count q = no-symbol (kind-head t x q) (λ s cs e. never (cc))
     go NoWord q = no-symbol (kind-head t x q) (λ s cs e. never (cc))
+
+pub child-degree : (t : List ℕ) {x y : ℕ} (c : NamedChild t x y) → c .place < degree t x
+unfolding degree choose
+child-degree t {x} c = omega (arith, ap (λ (b : Bool). choose b (contentAt t (x + 1)) 0) (c .function-there), c .within)
 
 -- the other way: what stands in a function's block is its child
 pub degree-child : (t : List ℕ) (x i : ℕ) → i < degree t x → Child (graphOf t) x (childOf t x i)

@@ -1,5 +1,6 @@
--- Laws of a table: what the leaves read, its layout, its shape, its graph, and that the rows allow one answer.
+-- Laws of a table: what the leaves read, the pairs of a list, its layout, its shape, its graph, and that the rows allow one answer.
 pub mod Leaves
+pub mod Pairs
 pub mod Blocks
 pub mod RowOfItems
 pub mod Children
