@@ -1,0 +1,3 @@
+-- Laws of a match.
+pub mod CycleSearch
+pub mod Verdicts

@@ -1,2 +1,3 @@
--- What a reader must believe of a match.
+-- Match is what a match promises; Stages serves this crate alone.
 pub mod Match
+pub mod Stages

@@ -56,7 +56,7 @@ module _ {t : List ℕ} (c : Shaped t) (no-loop : (x : ℕ) → Steps (Child (gr
 -- ---- no fault
 
 -- where there is no lowest, there is none
-none-at-all : {P : ℕ → Type 0} → ((a : ℕ) → Lowest P a → ⊥) → (k a : ℕ) → a < k → P a → ⊥
+pub none-at-all : {P : ℕ → Type 0} → ((a : ℕ) → Lowest P a → ⊥) → (k a : ℕ) → a < k → P a → ⊥
 none-at-all lowest zero a h p = omega arith
 none-at-all lowest (suc k) a h p = lowest a (record { has = p; none-below = λ j l q. none-at-all lowest k j (omega arith) q })
 

@@ -1,0 +1,100 @@
+-- The search for cycles, over a class row that holds a class table, finds the cycles of the partition.
+--
+-- In order: entries of the row; it can be searched (`class-searchable`); a way of its net is a step of classes (`way-step`)
+-- and, without a clash, a step of classes is a way between names (`step-way`); so what the search says is true of the
+-- partition (`search-tells`). Assumes nothing.
+use mathlib.Core.Path.{_≡_, sym, ap, _∙_, subst}
+use mathlib.Core.Bool.{Bool, true, false}
+use mathlib.Core.List.{List}
+use Prim.Native.Nat.{ℕ, _*_, _≤_, _<_}
+use native.Mathlib.Omega.{arith}
+use lib.ListN.{length, getD, take}
+use lib.Seq.{getD-take}
+use Rattle.graphs.specs.Graph.{symbol, Node, symbol-node, Child, Steps, one, more, WellFormed}
+use Rattle.graphs.specs.Partition.{Pair, Sides, Same, itself, placed, Clash, ClassStep, entry, ClassTable}
+use Rattle.graphs.proofs.Finite.{steps-map}
+use Rattle.graphs.proofs.Classes.{child-at, same-nodes, together-one-entry, entry-together}
+use Rattle.graphs.proofs.Unifiers.{name-symbol}
+use Rattle.table.specs.Table.{graphOf, degree, childOf}
+use Rattle.table.specs.Shaped.{Shaped}
+use Rattle.table.proofs.Children.{kind-node, NamedChild, named-child, child-degree, degree-child}
+use Rattle.table.proofs.Shape.{shaped-laid, shaped-degree, shaped-child}
+use Rattle.cycles.specs.Net.{Way, netOf, Returns, Searchable}
+use Rattle.matcher.specs.Stages.{Cycles}
+
+module _ {t : List ℕ} (class : List ℕ) {pairs : List Pair} (shaped : Shaped t) (wf : WellFormed (graphOf t)) (sides : Sides (graphOf t) pairs) (table : ClassTable (graphOf t) pairs (take (length t) class)) (room : length t ≤ length class) where
+  -- ---- entries of the row
+
+  row-entry : (x : ℕ) → x < length t → entry class x ≡ entry (take (length t) class) x
+  row-entry x h = sym (getD-take (length t) class x 0 h)
+
+  node-entry : {x : ℕ} → Node (graphOf t) x → entry class x ≡ entry (take (length t) class) x
+  node-entry {x} n = row-entry x (wf .inside x n)
+
+  with-name : {x : ℕ} → Node (graphOf t) x → Same (graphOf t) pairs x (entry class x)
+  with-name {x} n = subst (Same (graphOf t) pairs x) (sym (node-entry n)) (entry-together wf sides table x n)
+
+  one-name : {x y : ℕ} → Same (graphOf t) pairs x y → entry class x ≡ entry class y
+  one-name {x} {y} s =
+      let n : Node (graphOf t) x × Node (graphOf t) y = same-nodes wf sides s in
+      node-entry (n .0) ∙ together-one-entry wf sides table s ∙ sym (node-entry (n .1))
+
+  child-there : (x i : ℕ) → i < degree t x → Node (graphOf t) (childOf t x i)
+  child-there x i h = kind-node t (childOf t x i) (shaped-child shaped x i h)
+
+  -- ---- the search's demands
+
+  pub class-searchable : length t ≤ 4096 → (work-room : ℕ) → 2 * length t ≤ work-room → Searchable t class work-room
+  class-searchable small work-room enough =
+      record {
+        small = small;
+        laid = shaped-laid shaped;
+        counts = shaped-degree shaped;
+        row-room = room;
+        work-enough = enough;
+        child-inside = λ x i h. wf .inside (childOf t x i) (child-there x i h);
+        name-inside = λ x i h. wf .inside (entry class (childOf t x i)) (same-nodes wf sides (with-name (child-there x i h)) .1);
+        name-own = λ x i h. sym (one-name (with-name (child-there x i h)));
+      }
+
+  -- ---- ways and steps
+
+  way-step : (x y : ℕ) → Way (netOf t class) x y → ClassStep (graphOf t) pairs x y
+  way-step x y (i, h, e) =
+      let down : Child (graphOf t) x (childOf t x i) = degree-child t x i h in
+      record {
+        member = x;
+        child = childOf t x i;
+        from = itself (symbol-node (down .1 .stands));
+        down = down;
+        into = subst (Same (graphOf t) pairs (childOf t x i)) e (with-name (child-there x i h));
+      }
+
+  child-way : {x y : ℕ} → Child (graphOf t) x y → Way (netOf t class) x (entry class y)
+  child-way {x} {y} d =
+      let c : NamedChild t x y = named-child t x y d in
+      (c .place, child-degree t c, ap (entry class) (c .is))
+
+  module _ (no-clash : Clash (graphOf t) pairs → ⊥) where
+    -- A step may go down from any member; the class's name has a child at the same place, in the same class.
+    step-way : {x y : ℕ} → ClassStep (graphOf t) pairs x y → Way (netOf t class) (entry class x) (entry class y)
+    step-way {x} {y} step =
+        let i : ℕ = step .down .0 in
+        let d = step .down .1 in
+        let m : Node (graphOf t) (step .member) = symbol-node (d .stands) in
+        let named : (ys : List ℕ) × (graphOf t .head (entry (take (length t) class) (step .member)) ≡ symbol (d .named) ys) = name-symbol wf sides table no-clash (d .stands) in
+        let there : graphOf t .head (entry class (step .member)) ≡ symbol (d .named) (named .0) = ap (graphOf t .head) (node-entry m) ∙ named .1 in
+        let within : i < length (named .0) = omega (arith, d .within, wf .counted (step .member) (d .named) (d .children) (d .stands), wf .counted (entry class (step .member)) (d .named) (named .0) there) in
+        let beside : Same (graphOf t) pairs (getD (d .children) i 0) (getD (named .0) i 0) = placed (with-name m) (d .stands) there i (d .within) within in
+        let into : entry class (getD (named .0) i 0) ≡ entry class y = sym (one-name beside) ∙ ap (entry class) (d .is) ∙ one-name (step .into) in
+        subst (λ (r : ℕ). Way (netOf t class) r (entry class y)) (sym (one-name (step .from)))
+        (subst (λ (r : ℕ). Way (netOf t class) (entry class (step .member)) r) into (child-way (child-at there i within)))
+
+    steps-ways : {x y : ℕ} → Steps (ClassStep (graphOf t) pairs) x y → Steps (Way (netOf t class)) (entry class x) (entry class y)
+    steps-ways (one s) = one (step-way s)
+    steps-ways (more s rest) = more (step-way s) (steps-ways rest)
+
+    -- What the search answers on the net is the truth on the partition.
+    pub search-tells : (found : Bool) → Returns found (netOf t class) → Cycles found (graphOf t) pairs
+    search-tells true (x, s) = (x, steps-map way-step s)
+    search-tells false none-returns = λ c. none-returns (entry class (c .0)) (steps-ways (c .1))
