@@ -19,11 +19,11 @@ use Rattle.graphs.proofs.Replay.{both-true, either-true, decide-true, d
 module _ {S : Symbols} {G : Graph S} {pairs : List Pair} (wf : WellFormed G) (sides : Sides G pairs) where
   -- ---- names
 
-  key-symbol : {x : ℕ} {s : S .Symbol} {xs : List ℕ} → G .head x ≡ symbol s xs → key G x ≡ x
+  pub key-symbol : {x : ℕ} {s : S .Symbol} {xs : List ℕ} → G .head x ≡ symbol s xs → key G x ≡ x
   unfolding key keyOf
   key-symbol {x} e = ap (keyOf (G .size) x) e
 
-  key-variable : {x : ℕ} → G .head x ≡ variable → key G x ≡ G .size + x
+  pub key-variable : {x : ℕ} → G .head x ≡ variable → key G x ≡ G .size + x
   unfolding key keyOf
   key-variable {x} e = ap (keyOf (G .size) x) e
 

@@ -39,7 +39,7 @@ keep : {x y : ℕ} → Dec (x ≡ y) → List ℕ → List ℕ
 keep (yes e) rest = rest
 keep {x} {y} (no e) rest = y ∷ rest
 
-without : ℕ → List ℕ → List ℕ
+pub without : ℕ → List ℕ → List ℕ
 without x [] = []
 without x (y ∷ ys) = keep (ℕ-discrete x y) (without x ys)
 
@@ -53,7 +53,7 @@ unfolding without
 without-length x [] = omega arith
 without-length x (y ∷ ys) = omega (arith, keep-length (ℕ-discrete x y) (without x ys), without-length x ys)
 
-without-shorter : {x : ℕ} {l : List ℕ} → List·Memᴰ x l → length (without x l) < length l
+pub without-shorter : {x : ℕ} {l : List ℕ} → List·Memᴰ x l → length (without x l) < length l
 unfolding without keep
 without-shorter {x} (List·Memᴰ·head {x = y} {xs = ys} e) = go (ℕ-discrete x y)
   where
@@ -63,7 +63,7 @@ without-shorter {x} (List·Memᴰ·head {x = y} {xs = ys} e) = go (ℕ-discrete 
 without-shorter {x} (List·Memᴰ·tail {x = y} {xs = ys} m) =
     omega (arith, keep-length (ℕ-discrete x y) (without x ys), without-shorter m)
 
-still-in : {x y : ℕ} {l : List ℕ} → List·Memᴰ y l → (x ≡ y → ⊥) → List·Memᴰ y (without x l)
+pub still-in : {x y : ℕ} {l : List ℕ} → List·Memᴰ y l → (x ≡ y → ⊥) → List·Memᴰ y (without x l)
 unfolding without keep
 still-in {x} {y} (List·Memᴰ·head {x = z} {xs = zs} e) other = go (ℕ-discrete x z)
   where
@@ -76,16 +76,16 @@ still-in {x} {y} (List·Memᴰ·tail {x = z} {xs = zs} m) other = go (ℕ-discre
     go (yes p) t = t
     go (no p) t = List·Memᴰ·tail t
 
-upto : ℕ → List ℕ
+pub upto : ℕ → List ℕ
 upto zero = []
 upto (suc n) = n ∷ upto n
 
-upto-length : (n : ℕ) → length (upto n) ≡ n
+pub upto-length : (n : ℕ) → length (upto n) ≡ n
 unfolding upto
 upto-length zero = refl
 upto-length (suc n) = ap suc (upto-length n)
 
-upto-has : (n x : ℕ) → x < n → List·Memᴰ x (upto n)
+pub upto-has : (n x : ℕ) → x < n → List·Memᴰ x (upto n)
 unfolding upto
 upto-has zero x h = absurd (omega arith)
 upto-has (suc n) x h = go (ℕ-discrete x n) (λ k. upto-has n x k)

@@ -6,3 +6,4 @@ pub mod Trees
 pub mod Unifiers
 pub mod Replay
 pub mod Certificates
+pub mod Existence

@@ -73,7 +73,7 @@ either-way a b x y e =
 counts-below : (k n : ℕ) → counts k n ≡ true → pred k < n
 counts-below k n e = omega (arith, ltb-true 0 k (both-true e .0), leb-true k n (both-true e .1))
 
-pair-at : (pairs : List Pair) (d : Pair) (i : ℕ) → i < length pairs → getD pairs i d ∈ pairs
+pub pair-at : (pairs : List Pair) (d : Pair) (i : ℕ) → i < length pairs → getD pairs i d ∈ pairs
 pair-at [] d i h = absurd (omega arith)
 pair-at (p ∷ pairs) d zero h = List·Memᴰ·head refl
 pair-at (p ∷ pairs) d (suc i) h = List·Memᴰ·tail (pair-at pairs d i (omega arith))
@@ -101,7 +101,7 @@ module _ {S : Symbols} (G : Graph S) where
       apart-entry (suc x) k i (omega arith)
       ∙ ap (λ (y : ℕ). cond (isNode (G .head y)) y 0) (let e : suc x + i ≡ x + suc i = omega arith in e)
 
-  apart-own : (wf : WellFormed G) (x : ℕ) → Node G x → entry (apart G) x ≡ x
+  pub apart-own : (wf : WellFormed G) (x : ℕ) → Node G x → entry (apart G) x ≡ x
   unfolding apart isNode
   apart-own wf x n =
       apart-entry 0 (G .size) x (wf .inside x n)
@@ -134,7 +134,7 @@ module _ {S : Symbols} (G : Graph S) where
       }
 
 module _ {S : Symbols} {G : Graph S} {pairs : List Pair} (wf : WellFormed G) (sides : Sides G pairs) where
-  not-zero : {x : ℕ} → Node G x → x ≡ 0 → ⊥
+  pub not-zero : {x : ℕ} → Node G x → x ≡ 0 → ⊥
   not-zero n e = wf .none-at-0 (subst (Node G) e n)
 
   pub one-entry-same : {row : List ℕ} → Sound G pairs row → {x y : ℕ} → Node G x → Node G y → entry row x ≡ entry row y → Same G pairs x y
@@ -146,7 +146,7 @@ module _ {S : Symbols} {G : Graph S} {pairs : List Pair} (wf : WellFormed G) (si
       let t = both-true e in
       one-entry-same sound (is-node x (t .0)) (is-node y (both-true (t .1) .0)) (eqb-true (entry row x) (entry row y) (both-true (t .1) .1))
 
-  renamed-entry : (old new : ℕ) (row : List ℕ) → (old ≡ 0 → ⊥) → (x : ℕ) → entry (renamed old new row) x ≡ cond (eqb (entry row x) old) new (entry row x)
+  pub renamed-entry : (old new : ℕ) (row : List ℕ) → (old ≡ 0 → ⊥) → (x : ℕ) → entry (renamed old new row) x ≡ cond (eqb (entry row x) old) new (entry row x)
   unfolding renamed
   renamed-entry old new row other x =
       ap (λ (d : ℕ). getD (map (λ e. cond (eqb e old) new e) row) x d)

@@ -1,11 +1,11 @@
 -- The theorems of the partition and of unifiers. The definitions are in specs/, the proofs in the files beside this one.
 --
--- In order: the partition (demand 2); replacements (demand 3); more pairs; walks along classes; certificates.
+-- In order: the partition (demand 2); replacements (demand 3); more pairs; walks along classes; certificates; existence.
 --
 -- `wf` says that the graph is one that a checked table gives, `sides` that both sides of every pair are nodes, and `c` that
 -- `table` is the class table of the list. Assumes nothing.
 use mathlib.Core.Path.{_≡_}
-use mathlib.Core.Logic.{_↔_}
+use mathlib.Core.Logic.{_⊎_, _↔_}
 use mathlib.Core.Bool.{true}
 use mathlib.Core.List.{List}
 use Prim.Native.Nat.{ℕ, _≤_}
@@ -20,6 +20,7 @@ use Rattle.graphs.proofs.Trees as trees
 use Rattle.graphs.proofs.Unifiers as unifiers
 use Rattle.graphs.proofs.Replay as replays
 use Rattle.graphs.proofs.Certificates as certificates
+use Rattle.graphs.proofs.Existence as existence
 
 -- ---- the partition
 
@@ -126,3 +127,13 @@ module _ {S : Symbols} {G : Graph S} {pairs : List Pair} (wf : WellFormed G) (si
     -- Ways down that lead from a class that a log has made back to it are a cycle.
     pub log-cycle : (ways : List Down) → cycles G row ways ≡ true → Cycle G pairs
     log-cycle = certificates.cycles-cycle wf sides (replays.replay-sound wf sides log replayed)
+
+  -- ---- existence
+
+  -- Every list has a log whose joins end in a closed row, or in a row that shows a clash.
+  pub log-settles : (log : List Join) × (row : List ℕ) × (replay G pairs log ≡ ends row) × ((closed G pairs row ≡ true) ⊎ ((x : ℕ) × (y : ℕ) × (clashes G row x y ≡ true)))
+  log-settles = existence.log-settles wf sides
+
+  -- So every list has a class table, and then no clash; or it has a clash.
+  pub class-table-or-clash : ((table : List ℕ) × ClassTable G pairs table × (Clash G pairs → ⊥)) ⊎ Clash G pairs
+  class-table-or-clash = existence.class-table-or-clash wf sides
