@@ -1,6 +1,6 @@
 -- The answers of a match, from what its stages have shown.
 --
--- In order: rows that do not apply (`clear-first`, `passed-clear`); the check's answer is the match's (`check-refused`,
+-- In order: rows that apply and rows that do not (`clear-first`, `passed-none`, `applied`); the check's answer is the match's (`check-refused`,
 -- `check-passed`); the list (`list-answered`, `list-clear`, `side-answered`, `passes-all`); what a job has that passes all
 -- checks (`ready`); the pairs (`accepted-answered`, `clash-answered`, `cycle-answered`);
 -- the whole (`refused-late`, `accepted-bound`). Assumes nothing.
@@ -61,11 +61,17 @@ clear-first clear [] rest a p low later = later
 clear-first clear (row ∷ rows) rest a p low later = inr (λ q. clear row q (low .0), clear-first clear rows rest a p (low .1) later)
 
 -- An order that answers 0 has no row that applies.
-passed-none : {job : Job} {rows : List Row} {row : Row} → List·Memᴰ row rows → (p : ℕ) → Answered number (Fault job) rows 0 p → (q : ℕ) → Fault job row q → ⊥
+pub passed-none : {job : Job} {rows : List Row} {row : Row} → List·Memᴰ row rows → (p : ℕ) → Answered number (Fault job) rows 0 p → (q : ℕ) → Fault job row q → ⊥
 passed-none {job} (List·Memᴰ·head {x = first} {xs = rest} e) p (inl (z, x)) q f = number-positive first (sym z)
 passed-none {job} (List·Memᴰ·head {x = first} {xs = rest} e) p (inr (none-applies, later)) q f = none-applies q (subst (λ (r : Row). Fault job r q) e f)
 passed-none {job} (List·Memᴰ·tail {x = first} {xs = rest} m) p (inl (z, x)) q f = number-positive first (sym z)
 passed-none {job} (List·Memᴰ·tail {x = first} {xs = rest} m) p (inr (none-applies, later)) q f = passed-none m p later q f
+
+-- An order that answers another number than 0 has a row of that number that applies.
+pub applied : (job : Job) (rows : List Row) (a p : ℕ) → (a ≡ 0 → ⊥) → Answered number (Fault job) rows a p → (row : Row) × (number row ≡ a) × Fault job row p
+applied job [] a p refused (z, e) = absurd (refused z)
+applied job (row ∷ rows) a p refused (inl (e, f)) = (row, sym e, f)
+applied job (row ∷ rows) a p refused (inr (none-applies, later)) = applied job rows a p refused later
 
 check-row : (row : Row) → number row ≤ 7 → List·Memᴰ row checkOrder
 unfolding number

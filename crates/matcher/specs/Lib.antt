@@ -1,3 +1,4 @@
--- Match is what a match promises; Stages serves this crate alone.
+-- Match is what a match promises, and Demands has the words of the demands on it; Stages serves this crate alone.
 pub mod Match
+pub mod Demands
 pub mod Stages
