@@ -4,3 +4,4 @@ pub mod Demands
 pub mod OneMatch
 pub mod Verdicts
 pub mod CycleSearch
+pub mod ListLaws

@@ -1,6 +1,7 @@
 -- What the stages of a match promise each other. For this crate alone. Assumes nothing.
 use mathlib.Core.Path.{_≡_}
 use mathlib.Core.Bool.{Bool, true, false}
+use mathlib.Core.Logic.{_⊎_}
 use mathlib.Core.List.{List}
 use Prim.Native.Nat.{ℕ, _*_, _≤_, _<_}
 use lib.ListN.{length}
@@ -11,6 +12,11 @@ use Rattle.table.specs.Faults.{Job, pairsOf, odd, Row, Fault, number}
 use Rattle.table.specs.Shaped.{Shaped}
 use Rattle.checker.specs.declared.answer.Checked.{Checked}
 use Rattle.matcher.specs.declared.answer.Matched.{Matched}
+
+-- "odd number of entries, or over 512", or neither
+abbrev pub BadList : Bool → List ℕ → Type 0
+BadList true list = (odd list ≡ true) ⊎ (512 < length list)
+BadList false list = (odd list ≡ false) × (length list ≤ 512)
 
 -- some class reaches itself, or none does
 abbrev pub Cycles : {S : Symbols} → Bool → Graph S → List Pair → Type 0

@@ -1,2 +1,3 @@
 // The matcher: a list of pairs against a table.
 pub mod answer;
+mod list_faults;
