@@ -1,7 +1,8 @@
 -- What the row of a replayed log proves.
 --
--- In order: the first node of a class by key names it (`first-names`); a sound row that is closed is the class table, and has
--- no clash; falling ranks show that there is no cycle; a sound row shows a clash and a cycle. Assumes nothing.
+-- In order: keys by heads (`key-symbol` and on); the first node of a class by key names it (`first-names`); a sound row that is
+-- closed is the class table, and has no clash; falling ranks show that there is no cycle; a sound row shows a clash and a cycle.
+-- Assumes nothing.
 use mathlib.Core.Path.{_≡_, refl, sym, ap, _∙_, subst}
 use mathlib.Core.Logic.{⊎-elim}
 use mathlib.Core.Bool.{true, decide}
@@ -16,9 +17,9 @@ use Rattle.graphs.specs.Log.{children, together, keyOf, key, holdsPairs,
 use Rattle.graphs.proofs.Classes.{never, same-labels, same-nodes}
 use Rattle.graphs.proofs.Replay.{both-true, either-true, decide-true, decide-not, all-below, Sound, one-entry-same, together-same}
 
-module _ {S : Symbols} {G : Graph S} {pairs : List Pair} (wf : WellFormed G) (sides : Sides G pairs) where
-  -- ---- names
+-- ---- keys
 
+module _ {S : Symbols} (G : Graph S) where
   pub key-symbol : {x : ℕ} {s : S .Symbol} {xs : List ℕ} → G .head x ≡ symbol s xs → key G x ≡ x
   unfolding key keyOf
   key-symbol {x} e = ap (keyOf (G .size) x) e
@@ -27,6 +28,13 @@ module _ {S : Symbols} {G : Graph S} {pairs : List Pair} (wf : WellFormed G) (si
   unfolding key keyOf
   key-variable {x} e = ap (keyOf (G .size) x) e
 
+  pub key-nothing : {x : ℕ} → G .head x ≡ nothing → key G x ≡ G .size + x
+  unfolding key keyOf
+  key-nothing {x} e = ap (keyOf (G .size) x) e
+
+module _ {S : Symbols} {G : Graph S} {pairs : List Pair} (wf : WellFormed G) (sides : Sides G pairs) where
+  -- ---- names
+
   -- The node of a class that comes first by key names it.
   pub first-names : {x r : ℕ} → Same G pairs x r → ((y : ℕ) → Same G pairs x y → key G r ≤ key G y) → Named G pairs x r
   first-names {x} {r} same first = go (same-nodes wf sides same .1)
@@ -34,13 +42,13 @@ module _ {S : Symbols} {G : Graph S} {pairs : List Pair} (wf : WellFormed G) (si
       not-symbol : {y : ℕ} → G .head r ≡ variable → Same G pairs x y → Node G y → G .head y ≡ variable
       not-symbol e s (variable-node v) = v
       not-symbol {y} e s (symbol-node h) =
-          absurd (omega (arith, key-variable e, key-symbol h, first y s, wf .inside y (symbol-node h)))
+          absurd (omega (arith, key-variable G e, key-symbol G h, first y s, wf .inside y (symbol-node h)))
 
       go : Node G r → Named G pairs x r
-      go (symbol-node e) = by-non-variable same e (λ y t ys s h. omega (arith, key-symbol e, key-symbol h, first y s))
+      go (symbol-node e) = by-non-variable same e (λ y t ys s h. omega (arith, key-symbol G e, key-symbol G h, first y s))
       go (variable-node e) =
           by-variable same (λ y s. not-symbol e s (same-nodes wf sides s .1))
-          (λ y s. omega (arith, key-variable e, key-variable (not-symbol e s (same-nodes wf sides s .1)), first y s))
+          (λ y s. omega (arith, key-variable G e, key-variable G (not-symbol e s (same-nodes wf sides s .1)), first y s))
 
   -- ---- a closed row
 

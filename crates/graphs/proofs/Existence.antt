@@ -171,7 +171,7 @@ module _ {S : Symbols} {G : Graph S} {pairs : List Pair} (wf : WellFormed G) (si
         to : {s : S .Symbol} {xs : List ℕ} → G .head x ≡ symbol s xs → (h : Head S) → G .head (entry row x) ≡ h → agreesWith row s xs h ≡ false → Next G pairs row
         to ex nothing ey g = absurd (nothing-no-node ey (name-there sound (symbol-node ex)))
         to ex variable ey g =
-            absurd (omega (arith, key-variable wf sides ey, key-symbol wf sides ex, sound .first x (symbol-node ex), wf .inside x (symbol-node ex)))
+            absurd (omega (arith, key-variable G ey, key-symbol G ex, sound .first x (symbol-node ex), wf .inside x (symbol-node ex)))
         to ex (symbol r ys) ey g = at-symbols ex ey g
 
         from : (h : Head S) → G .head x ≡ h → agrees G row h (entry row x) ≡ false → Next G pairs row

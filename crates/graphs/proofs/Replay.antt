@@ -88,12 +88,12 @@ pub record Sound {S : Symbols} (G : Graph S) (pairs : List Pair) (row : List ℕ
   pub empty : (x : ℕ) → G .head x ≡ nothing → entry row x ≡ 0
 
 module _ {S : Symbols} (G : Graph S) where
-  apart-length : (x k : ℕ) → length (apartFrom G x k) ≡ k
+  pub apart-length : (x k : ℕ) → length (apartFrom G x k) ≡ k
   unfolding apartFrom
   apart-length x zero = refl
   apart-length x (suc k) = ap suc (apart-length (suc x) k)
 
-  apart-entry : (x k i : ℕ) → i < k → entry (apartFrom G x k) i ≡ cond (isNode (G .head (x + i))) (x + i) 0
+  pub apart-entry : (x k i : ℕ) → i < k → entry (apartFrom G x k) i ≡ cond (isNode (G .head (x + i))) (x + i) 0
   unfolding apartFrom
   apart-entry x zero i h = absurd (omega arith)
   apart-entry x (suc k) zero h = ap (λ (y : ℕ). cond (isNode (G .head y)) y 0) (sym (add-zero x))

@@ -5,3 +5,6 @@ pub mod OneMatch
 pub mod Verdicts
 pub mod CycleSearch
 pub mod ListLaws
+pub mod FirstPairs
+pub mod Halving
+pub mod Whole

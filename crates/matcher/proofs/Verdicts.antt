@@ -326,11 +326,15 @@ module _ {job : Job} (passes : Passes job) where
 
 -- ---- the whole
 
-late-cleared : (a n : ℕ) (row : List ℕ) → 3 ≤ a → cleared a n row ≡ zeroed n row
+pub late-cleared : (a n : ℕ) (row : List ℕ) → 3 ≤ a → cleared a n row ≡ zeroed n row
 unfolding cleared
 late-cleared a n row h =
     ap (λ (b : Bool). cond (b || eqb a 2) row (zeroed n row)) (ne-eqb a 1 (λ e. omega arith))
     ∙ ap (λ (b : Bool). cond b row (zeroed n row)) (ne-eqb a 2 (λ e. omega arith))
+
+pub zero-cleared : (n : ℕ) (row : List ℕ) → cleared 0 n row ≡ zeroed n row
+unfolding cleared
+zero-cleared n row = refl
 
 module _ {t list class work class-after work-after : List ℕ} where
   -- An answer from 3 on, with both buffers cleared, is the match's.

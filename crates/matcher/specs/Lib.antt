@@ -2,3 +2,4 @@
 pub mod Match
 pub mod Demands
 pub mod Stages
+pub mod FirstFailure

@@ -178,6 +178,12 @@ cleared-zero row n i h =
 
 -- ---- one answer
 
+-- A front that is cleared stays so when a part of it is cleared again.
+pub cleared-again : (row : List ℕ) (k n : ℕ) → k ≤ n → replicate k 0 ++ drop k (replicate n 0 ++ row) ≡ replicate n 0 ++ row
+cleared-again row zero n h = refl
+cleared-again row (suc k) zero h = absurd (omega arith)
+cleared-again row (suc k) (suc n) h = ap (λ (rest : List ℕ). 0 ∷ rest) (cleared-again row k n (omega arith))
+
 -- A contract that is an equation leaves nothing open: two answers that it allows are equal
 pub equations-agree {ℓ} : {A : Type ℓ} {x y e : A} → x ≡ e → y ≡ e → x ≡ y
 equations-agree p q = p ∙ sym q

@@ -1,0 +1,169 @@
+-- What a meeting of two heads says of the nodes that they stand at.
+--
+-- In order: what stands at a node, in words and in the graph (`see`); the three outcomes (`clash-heads`, `joined-heads`,
+-- `go-down-heads`). Assumes nothing.
+use mathlib.Core.Path.{_≡_, refl, sym, ap, ap₂, _∙_, subst}
+use mathlib.Core.Bool.{Bool, true, false, cond}
+use mathlib.Core.List.{List, []}
+use Prim.Native.Nat.{ℕ, suc, _+_, _<_}
+use native.Mathlib.Omega.{arith}
+use lib.ListN.{length}
+use Rattle.words.specs.declared.kind.Kind.{Kind}
+use Rattle.words.specs.declared.head.Head.{Head}
+use Rattle.words.specs.declared.head.Symbol.{Symbol}
+use Rattle.words.specs.declared.meeting.Outcome.{Outcome}
+use Rattle.words.specs.Head.{sameSymbol}
+use Rattle.words.specs.Meeting.{outcomeOf}
+use Rattle.words.proofs.HeadLaws.{same-symbol-exactly}
+use Rattle.graphs.specs.Graph.{Head as GraphHead, variable, symbol, Node}
+use Rattle.graphs.specs.Log.{key, keyOf}
+use Rattle.graphs.proofs.Classes.{never}
+use Rattle.table.specs.Table.{TableSymbols, graphOf, degree, choose, functionKind, kindAt, contentAt, symbolWith, headOf, nodeKind, childrenAt}
+use Rattle.table.specs.Heads.{top, labelAt, constantKind}
+use Rattle.table.specs.Layout.{countKind}
+use Rattle.table.specs.Faults.{badKind, badLater, badWord}
+use Rattle.table.specs.Shaped.{Shaped}
+use Rattle.table.proofs.Children.{kind-head, node-kind}
+use Rattle.table.proofs.Shape.{inside-kind, block-count}
+use Rattle.classes.specs.Meeting.{OneSymbol}
+
+-- ---- what stands at a node
+
+pub data Seen (t : List ℕ) (x : ℕ) : Type 0 where
+  variable-seen : graphOf t .head x ≡ variable → degree t x ≡ 0 → top t x ≡ Head.Variable (labelAt t x) → Seen t x
+  constant-seen : graphOf t .head x ≡ symbol (symbolWith (contentAt t x) 0) [] → degree t x ≡ 0 → top t x ≡ Head.Constant (labelAt t x) → Seen t x
+  function-seen : graphOf t .head x ≡ symbol (symbolWith (contentAt t x) (contentAt t (x + 1))) (childrenAt t x)
+      → (contentAt t (x + 1) ≡ 0 → ⊥) → top t x ≡ Head.Function (labelAt t x) (contentAt t (x + 1)) → Seen t x
+
+-- A function counts an argument, so no constant has its symbol.
+function-counts : {t : List ℕ} → Shaped t → (x : ℕ) → kindAt t x ≡ Kind.Function → contentAt t (x + 1) ≡ 0 → ⊥
+unfolding badKind badLater
+function-counts {t} shaped x f z = shaped .words (suc x) inside (bad (kindAt t (suc x)) refl counted)
+  where
+    at : x + 1 ≡ suc x
+    at = omega arith
+
+    counted : countKind (kindAt t (suc x)) ≡ true
+    counted = subst (λ (y : ℕ). countKind (kindAt t y) ≡ true) at (block-count shaped x (ap functionKind f))
+
+    inside : suc x < length t
+    inside = inside-kind t (suc x) countKind refl counted
+
+    bad : (k : Kind) → kindAt t (suc x) ≡ k → countKind k ≡ true → badWord t (suc x) ≡ true
+    bad Kind.Count e c = ap₂ badKind e (subst (λ (y : ℕ). contentAt t y ≡ 0) at z)
+    bad Kind.Variable e c = never (cc)
+    bad Kind.Constant e c = never (cc)
+    bad Kind.Function e c = never (cc)
+    bad Kind.Pointer e c = never (cc)
+    bad Kind.NoWord e c = never (cc)
+
+module _ (t : List ℕ) (x : ℕ) where
+  topAs : Kind → Head
+  topAs k = choose (functionKind k) (Head.Function (labelAt t x) (contentAt t (x + 1))) (choose (constantKind k) (Head.Constant (labelAt t x)) (Head.Variable (labelAt t x)))
+
+  top-at : {k : Kind} → kindAt t x ≡ k → top t x ≡ topAs k
+  unfolding top topAs
+  top-at e = ap topAs e
+
+  degree-at : {k : Kind} → kindAt t x ≡ k → degree t x ≡ choose (functionKind k) (contentAt t (x + 1)) 0
+  unfolding degree
+  degree-at e = ap (λ (k : Kind). choose (functionKind k) (contentAt t (x + 1)) 0) e
+
+  -- the place in the naming order, by the head in words
+  abbrev keyBy : Head → ℕ
+  keyBy (Head.Variable l) = length t + x
+  keyBy (Head.Constant l) = x
+  keyBy (Head.Function l n) = x
+
+  key-by-top : key (graphOf t) x ≡ keyBy (top t x)
+  unfolding topAs choose headOf key keyOf
+  key-by-top = go (kindAt t x) refl
+    where
+      at : {k : Kind} → kindAt t x ≡ k → keyOf (length t) x (headOf k t x) ≡ keyBy (topAs k) → key (graphOf t) x ≡ keyBy (top t x)
+      at e f = ap (keyOf (length t) x) (kind-head t x e) ∙ f ∙ sym (ap keyBy (top-at e))
+
+      go : (k : Kind) → kindAt t x ≡ k → key (graphOf t) x ≡ keyBy (top t x)
+      go Kind.Variable e = at e refl
+      go Kind.Constant e = at e refl
+      go Kind.Function e = at e refl
+      go Kind.Pointer e = at e refl
+      go Kind.Count e = at e refl
+      go Kind.NoWord e = at e refl
+
+  pub key-at : {h k : Head} → h ≡ top t x → h ≡ k → keyBy k ≡ key (graphOf t) x
+  key-at e f = ap keyBy (sym f ∙ e) ∙ sym key-by-top
+
+pub see : {t : List ℕ} → Shaped t → (x : ℕ) → Node (graphOf t) x → Seen t x
+unfolding topAs choose headOf
+see {t} shaped x n = go (kindAt t x) refl (node-kind t x n)
+  where
+    go : (k : Kind) → kindAt t x ≡ k → nodeKind (kindAt t x) ≡ true → Seen t x
+    go Kind.Variable e h = variable-seen (kind-head t x e) (degree-at t x e) (top-at t x e)
+    go Kind.Constant e h = constant-seen (kind-head t x e) (degree-at t x e) (top-at t x e)
+    go Kind.Function e h = function-seen (kind-head t x e) (function-counts shaped x e) (top-at t x e)
+    go Kind.Pointer e h = never (cc)
+    go Kind.Count e h = never (cc)
+    go Kind.NoWord e h = never (cc)
+
+-- ---- the outcomes
+
+-- a and b are nodes with different symbols
+pub record DifferentSymbols (t : List ℕ) (a b : ℕ) : Type 0 where
+  pub left-symbol : Symbol
+  pub left-children : List ℕ
+  pub right-symbol : Symbol
+  pub right-children : List ℕ
+  pub left-head : graphOf t .head a ≡ symbol left-symbol left-children
+  pub right-head : graphOf t .head b ≡ symbol right-symbol right-children
+  pub different : left-symbol ≡ right-symbol → ⊥
+
+-- a or b is a variable, or both are constants with one symbol
+pub data Plain (t : List ℕ) (a b : ℕ) : Type 0 where
+  left-variable : graphOf t .head a ≡ variable → degree t a ≡ 0 → Plain t a b
+  right-variable : graphOf t .head b ≡ variable → degree t b ≡ 0 → Plain t a b
+  constants : OneSymbol t a b → degree t a ≡ 0 → degree t b ≡ 0 → Plain t a b
+
+-- what each outcome says
+abbrev pub Said : List ℕ → ℕ → ℕ → Outcome → Type 0
+Said t a b Outcome.Joined = Plain t a b
+Said t a b Outcome.JoinedGoDown = OneSymbol t a b
+Said t a b Outcome.Clash = DifferentSymbols t a b
+
+abbrev carrying : List ℕ → Symbol → GraphHead TableSymbols
+carrying ys v = symbol v ys
+
+module _ (t : List ℕ) (a b : ℕ) {s u : Symbol} {xs ys : List ℕ} (ha : graphOf t .head a ≡ symbol s xs) (hb : graphOf t .head b ≡ symbol u ys) where
+  one-symbol : s ≡ u → OneSymbol t a b
+  one-symbol e =
+      record { named = s; left-children = xs; right-children = ys; left-head = ha; right-head = hb ∙ ap (carrying ys) (sym e) }
+
+  two-symbols : (s ≡ u → ⊥) → DifferentSymbols t a b
+  two-symbols d =
+      record { left-symbol = s; left-children = xs; right-symbol = u; right-children = ys; left-head = ha; right-head = hb; different = d }
+
+  -- two that have symbols agree, and then this is said of them, or clash
+  agreed : (o : Outcome) → (OneSymbol t a b → Said t a b o) → (agree : Bool) → sameSymbol s u ≡ agree → Said t a b (cond agree o Outcome.Clash)
+  agreed o say true e = say (one-symbol (same-symbol-exactly s u .0 e))
+  agreed o say false e = two-symbols (λ p. let h : sameSymbol s u ≡ true = same-symbol-exactly s u .1 p in never (cc))
+
+pub said : {t : List ℕ} → Shaped t → (a b : ℕ) → Node (graphOf t) a → Node (graphOf t) b → Said t a b (outcomeOf (top t a) (top t b))
+said {t} shaped a b na nb = go (see shaped a na) (see shaped b nb)
+  where
+    to : {h k : Head} → top t a ≡ h → top t b ≡ k → Said t a b (outcomeOf h k) → Said t a b (outcomeOf (top t a) (top t b))
+    to p q r = subst (Said t a b) (sym (ap₂ outcomeOf p q)) r
+
+    go : Seen t a → Seen t b → Said t a b (outcomeOf (top t a) (top t b))
+    go (variable-seen h d e) (variable-seen i f g) = to e g (left-variable h d)
+    go (variable-seen h d e) (constant-seen i f g) = to e g (left-variable h d)
+    go (variable-seen h d e) (function-seen i c g) = to e g (left-variable h d)
+    go (constant-seen h d e) (variable-seen i f g) = to e g (right-variable i f)
+    go (constant-seen h d e) (constant-seen i f g) = to e g (agreed t a b h i Outcome.Joined (λ o. constants o d f) _ refl)
+    go (constant-seen h d e) (function-seen i c g) = to e g (two-symbols t a b h i (λ p. c (sym (ap (λ (v : Symbol). v .count) p))))
+    go (function-seen h c e) (variable-seen i f g) = to e g (right-variable i f)
+    go (function-seen h c e) (constant-seen i f g) = to e g (two-symbols t a b h i (λ p. c (ap (λ (v : Symbol). v .count) p)))
+    go (function-seen h c e) (function-seen i d g) = to e g (agreed t a b h i Outcome.JoinedGoDown (λ o. o) _ refl)
+
+-- the same, at what the functions return
+pub said-at : {t : List ℕ} → Shaped t → (a b : ℕ) → Node (graphOf t) a → Node (graphOf t) b
+    → {h k : Head} {o p : Outcome} → h ≡ top t a → k ≡ top t b → o ≡ outcomeOf h k → o ≡ p → Said t a b p
+said-at {t} shaped a b na nb eh ek eo ep = subst (Said t a b) (sym (ap₂ outcomeOf eh ek) ∙ sym eo ∙ ep) (said shaped a b na nb)

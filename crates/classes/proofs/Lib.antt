@@ -1,0 +1,15 @@
+-- Laws of the forest, of meetings and of class tables.
+pub mod ClassTables
+pub mod Climbs
+pub mod Counts
+pub mod Down
+pub mod Flat
+pub mod Heads
+pub mod Linked
+pub mod Links
+pub mod Moves
+pub mod OneByOne
+pub mod Outcomes
+pub mod OwnClasses
+pub mod Shortened
+pub mod Symbols

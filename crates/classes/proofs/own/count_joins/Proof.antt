@@ -1,0 +1,83 @@
+-- `classes::own::count_joins` meets its contract. The loop's invariant is `Counted`: what is counted so far and the classes so
+-- far are the nodes so far. Assumes nothing.
+use mathlib.Core.Bool.{not}
+use mathlib.Core.Logic.{⊎-elim}
+use Prim.Native.Nat.{_-_}
+use native.Mathlib.Omega.{arith}
+use borrow.Author.Needs.{needs}
+use lib.Dec.{eqb}
+use lib.ListN.{length}
+use Rattle.graphs.specs.Partition.{entry}
+use Rattle.classes.proofs.OwnClasses.{Counted, other-name, own-name, no-name, counted-none, counted-more, counted-all}
+use Rattle.classes.proofs.own.count_joins.Statement.{statement}
+use Rattle.classes.proofs.own.count_joins.Tie as tie
+
+abbrev Inv-loop : tie.InvT-loop
+Inv-loop table class joined₀ x₀ joined x = Counted table class joined x
+
+abbrev μ-loop : tie.MeasureT-loop
+μ-loop table class joined₀ x₀ joined x = length table - x
+
+loop-holds : tie.Need-loop-holds Inv-loop μ-loop
+loop-holds c =
+    let p : tie.Start Inv-loop μ-loop = search needs in
+    counted-none (p .args .table .now) (p .args .class .now)
+
+cast-t8 : tie.Need-cast-t8 Inv-loop μ-loop
+cast-t8 c =
+    let p : tie.Start Inv-loop μ-loop = search needs in
+    omega (arith, p .pre .1)
+
+is-node-requires : tie.Need-is-node-requires Inv-loop μ-loop
+is-node-requires c κs = search needs
+
+mul-if2 : tie.Need-mul-if2 Inv-loop μ-loop
+mul-if2 c = search needs
+
+shared-slice-read-if2 : tie.Need-shared-slice-read-if2 Inv-loop μ-loop
+shared-slice-read-if2 c =
+    let p : tie.Start Inv-loop μ-loop = search needs in
+    omega (arith, p .pre .0)
+
+add-joined : tie.Need-add-joined Inv-loop μ-loop
+add-joined c =
+    let p : tie.Start Inv-loop μ-loop = search needs in
+    let o : tie.At-loop Inv-loop μ-loop = search needs in
+    omega (arith, p .pre .1, o .loop .inv .few, o .loop .inv .within)
+
+add-x : tie.Need-add-x Inv-loop μ-loop
+add-x c = omega arith
+
+loop-less : tie.Need-loop-less Inv-loop μ-loop
+loop-less c = omega arith
+
+loop-again : tie.Need-loop-again Inv-loop μ-loop
+loop-again c =
+    let p : tie.Start Inv-loop μ-loop = search needs in
+    let o : tie.At-loop Inv-loop μ-loop = search needs in
+    let n : tie.After-is-node Inv-loop μ-loop = search needs in
+    ⊎-elim
+    (λ w. counted-more (o .loop .inv) (search needs) (omega (arith, w .4, other-name (n .is-node .ensures) (w .0 .taken) (w .3 .taken))))
+    (λ w. counted-more (o .loop .inv) (search needs)
+    (⊎-elim (λ v. omega (arith, w .1, own-name (n .is-node .ensures) (v .0 .taken) (v .3 .left))) (λ v. omega (arith, w .1, no-name (not (eqb (entry (p .args .class .now) (o .loop .x)) (o .loop .x))) (n .is-node .ensures) (v .left))) (w .0 .came)))
+    (c .if1 .came)
+
+returns : tie.Need-returns Inv-loop μ-loop
+returns c = counted-all (c .before .loop .inv) (c .loop-test .left)
+
+pub count-joins-spec : {M : Type 1} → statement M
+count-joins-spec =
+    tie.close
+    (tie.spec
+    Inv-loop
+    μ-loop
+    loop-holds
+    cast-t8
+    is-node-requires
+    mul-if2
+    shared-slice-read-if2
+    add-joined
+    add-x
+    loop-less
+    loop-again
+    returns)

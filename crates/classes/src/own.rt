@@ -1,0 +1,43 @@
+// Each node its own class, and the joins counted.
+ghost use mathlib.Core.Path.{_≡_};
+ghost use mathlib.Core.List.{_++_};
+ghost use Prim.Native.Nat.{_≤_};
+ghost use lib.ListN.{length, drop};
+ghost use Rattle.graphs.specs.Log.{apart as apartIn};
+ghost use Rattle.graphs.specs.Partition.{joins};
+ghost use Rattle.table.specs.Table.{graphOf};
+use words::numbers::Address;
+
+// Each node becomes its own class; the other entries in use become 0.
+pub fn apart(table: &[u32], class: &mut [u16])
+    requires { ⌜ (length (now table) ≤ length (now class)) × (length (now table) ≤ 4096) ⌝ }
+    ensures { λ _. ⌜ now (class .exit) ≡ apartIn (graphOf (now (table .entry))) ++ drop (length (now (table .entry))) (now (class .entry)) ⌝ }
+{
+    let mut x = 0;
+    while x < table.len() {
+        let at = Address(x as u16);
+        if table::is_node(table, at) {
+            class[x] = at.0;
+        } else {
+            class[x] = 0;
+        }
+        x += 1;
+    }
+}
+
+// The number of nodes less the number of classes: how many nodes have another name than their own.
+pub fn count_joins(table: &[u32], class: &[u16]) -> u16
+    requires { ⌜ (length (now table) ≤ length (now class)) × (length (now table) ≤ 4096) ⌝ }
+    ensures { λ r. ⌜ r ≡ joins (graphOf (now (table .entry))) (now (class .entry)) ⌝ }
+{
+    let mut joined = 0;
+    let mut x = 0;
+    while x < table.len() {
+        let at = Address(x as u16);
+        if table::is_node(table, at) && class[x] != at.0 {
+            joined += 1;
+        }
+        x += 1;
+    }
+    joined
+}
