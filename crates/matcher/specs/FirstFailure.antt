@@ -13,7 +13,7 @@ use Rattle.table.specs.Faults.{pairsOf, Fault, number, matchOrder}
 use Rattle.checker.specs.Check.{zeroed}
 use Rattle.classes.specs.declared.joining.Joined.{Joined}
 use Rattle.matcher.specs.declared.answer.Matched.{Matched}
-use Rattle.matcher.specs.Match.{numberOf, placeOf, joinsOf, Bound, jobOf, Passes}
+use Rattle.matcher.specs.Match.{numberOf, placeOf, joinsOf, Bound, jobOf}
 use Rattle.matcher.specs.Stages.{Cycles, ClearTo, Ready}
 
 -- A job that passes all checks, and a work row whose entries that are used are 0.

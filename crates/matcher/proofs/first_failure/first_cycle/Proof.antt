@@ -10,9 +10,6 @@ use Rattle.matcher.proofs.FirstPairs.{standing-after}
 use Rattle.matcher.proofs.Halving.{fewer-clashless, Halved, halved-start, lower-half, upper-half, halved-end}
 use Rattle.matcher.proofs.first_failure.first_cycle.Statement.{statement}
 use Rattle.matcher.proofs.first_failure.first_cycle.Tie as tie
-use Rattle.matcher.proofs.first_failure.first_cycle.Reads as reads
-use Rattle.matcher.proofs.first_failure.first_cycle.Lts as lts
-use Rattle.matcher.proofs.first_failure.has_cycle.Reads as has-cycle-reads
 
 abbrev Inv-loop : tie.InvT-loop
 Inv-loop table list many class₀ work₀ none₀ some₀ class work none some = Halved table list class₀ work₀ many class work none some
@@ -20,71 +17,60 @@ Inv-loop table list many class₀ work₀ none₀ some₀ class work none some =
 abbrev μ-loop : tie.MeasureT-loop
 μ-loop table list many class₀ work₀ none₀ some₀ class work none some = some - none
 
--- src/first_failure.rt:61:5
 loop-holds : tie.Need-loop-holds Inv-loop μ-loop
 loop-holds c =
     let p : tie.Start Inv-loop μ-loop = search needs in
     halved-start _ (p .pre .0) (p .pre .2)
 
--- src/first_failure.rt:61:11
 add-loop : tie.Need-add-loop Inv-loop μ-loop
 add-loop c =
     let p : tie.Start Inv-loop μ-loop = search needs in
     omega (arith, c .loop .inv .within, c .loop .inv .apart, p .pre .1 .inside, length-pairsOf (p .args .list .now), p .pre .0 .ready .few)
 
--- src/first_failure.rt:62:23
 add-middle : tie.Need-add-middle Inv-loop μ-loop
 add-middle c =
     let p : tie.Start Inv-loop μ-loop = search needs in
     let o : tie.At-loop Inv-loop μ-loop = search needs in
     omega (arith, o .loop .inv .within, o .loop .inv .apart, p .pre .1 .inside, length-pairsOf (p .args .list .now), p .pre .0 .ready .few)
 
--- src/first_failure.rt:63:12
 has-cycle-requires : tie.Need-has-cycle-requires Inv-loop μ-loop
 has-cycle-requires c κs =
     let p : tie.Start Inv-loop μ-loop = search needs in
     let o : tie.At-loop Inv-loop μ-loop = search needs in
     (standing-after (p .pre .0) (o .loop .inv .lent), fewer-clashless _ (p .pre .1) (omega (arith, o .loop .inv .within, o .loop .inv .apart)))
 
--- src/first_failure.rt:61:5
 loop-less : tie.Need-loop-less Inv-loop μ-loop
 loop-less c =
     let o : tie.At-loop Inv-loop μ-loop = search needs in
     omega (arith, o .loop .inv .apart)
 
--- src/first_failure.rt:61:5
 loop-again : tie.Need-loop-again Inv-loop μ-loop
 loop-again c =
     let o : tie.At-loop Inv-loop μ-loop = search needs in
     let h : tie.After-has-cycle Inv-loop μ-loop = search needs in
     lower-half (o .loop .inv) (h .has-cycle .ensures) (omega (arith, o .loop .inv .apart)) (omega (arith, o .loop .inv .apart)) (c .if1 .taken)
 
--- src/first_failure.rt:61:5
 loop-less-2 : tie.Need-loop-less-2 Inv-loop μ-loop
 loop-less-2 c =
     let o : tie.At-loop Inv-loop μ-loop = search needs in
     omega (arith, o .loop .inv .apart)
 
--- src/first_failure.rt:61:5
 loop-again-2 : tie.Need-loop-again-2 Inv-loop μ-loop
 loop-again-2 c =
     let o : tie.At-loop Inv-loop μ-loop = search needs in
     let h : tie.After-has-cycle Inv-loop μ-loop = search needs in
     upper-half (o .loop .inv) (h .has-cycle .ensures) (omega (arith, o .loop .inv .apart)) (omega (arith, o .loop .inv .apart)) (c .if1 .left)
 
--- src/first_failure.rt:55:1
 same-length : tie.Need-same-length Inv-loop μ-loop
 same-length c =
     let o : tie.At-loop Inv-loop μ-loop = search needs in
     o .loop .inv .lent .class-long
 
--- src/first_failure.rt:55:1
 same-length-2 : tie.Need-same-length-2 Inv-loop μ-loop
 same-length-2 c =
     let o : tie.At-loop Inv-loop μ-loop = search needs in
     ap length (o .loop .inv .lent .work-same)
 
--- src/first_failure.rt:55:1
 returns : tie.Need-returns Inv-loop μ-loop
 returns c =
     let o : tie.At-loop Inv-loop μ-loop = search needs in

@@ -5,31 +5,22 @@ use Rattle.matcher.proofs.FirstPairs.{standing-after, all-partitioned}
 use Rattle.matcher.proofs.Halving.{row-searchable, tells-cycle}
 use Rattle.matcher.proofs.first_failure.has_cycle.Statement.{statement}
 use Rattle.matcher.proofs.first_failure.has_cycle.Tie as tie
-use Rattle.matcher.proofs.first_failure.has_cycle.Reads as reads
-use Rattle.matcher.proofs.first_failure.has_cycle.Lts as lts
-use Rattle.cycles.proofs.reaches_itself.Reads as reaches-itself-reads
-use Rattle.matcher.proofs.first_failure.join_first.Reads as join-first-reads
 
--- src/first_failure.rt:49:5
 join-first-requires : tie.Need-join-first-requires
 join-first-requires c κs = search needs
 
--- src/first_failure.rt:50:5
 reaches-itself-requires : tie.Need-reaches-itself-requires
 reaches-itself-requires c κs =
     let p : tie.Start = search needs in
     let j : tie.After-join-first = search needs in
     row-searchable (standing-after (p .pre .0) (j .join-first .ensures .lent)) (p .pre .1 .inside) (all-partitioned (j .join-first .ensures .joined) (p .pre .1 .no-clash))
 
--- src/first_failure.rt:45:1
 same-length : tie.Need-same-length
 same-length c = search needs
 
--- src/first_failure.rt:45:1
 same-length-2 : tie.Need-same-length-2
 same-length-2 c = search needs
 
--- src/first_failure.rt:45:1
 returns : tie.Need-returns
 returns c =
     let p : tie.Start = search needs in

@@ -9,43 +9,32 @@ use Rattle.table.proofs.Pairs.{length-pairsOf}
 use Rattle.matcher.proofs.FirstPairs.{first-joinable, joins-first}
 use Rattle.matcher.proofs.first_failure.join_first.Statement.{statement}
 use Rattle.matcher.proofs.first_failure.join_first.Tie as tie
-use Rattle.matcher.proofs.first_failure.join_first.Reads as reads
-use Rattle.matcher.proofs.first_failure.join_first.Lts as lts
-use Rattle.classes.proofs.join.Reads as join-reads
-use Rattle.classes.proofs.apart.Reads as apart-reads
 
--- src/first_failure.rt:24:5
 apart-requires : tie.Need-apart-requires
 apart-requires c κs = search needs
 
--- src/first_failure.rt:25:34
 mul-join : tie.Need-mul-join
 mul-join c =
     let p : tie.Start = search needs in
     omega (arith, p .pre .0 .ready .few, length-pairsOf (p .args .list .now))
 
--- src/first_failure.rt:25:26
 slice-aggregate-join : tie.Need-slice-aggregate-join
 slice-aggregate-join c =
     let p : tie.Start = search needs in
     sym (length-take-le _ _ (omega (arith, length-pairsOf (p .args .list .now))))
 
--- src/first_failure.rt:25:5
 join-requires : tie.Need-join-requires
 join-requires c κs =
     let p : tie.Start = search needs in
     let a : tie.After-apart = search needs in
     ([], first-joinable (p .pre .0) (p .pre .1) (a .apart .ensures) (a .apart .kept .1 .0))
 
--- src/first_failure.rt:20:1
 same-length : tie.Need-same-length
 same-length c = search needs
 
--- src/first_failure.rt:20:1
 same-length-2 : tie.Need-same-length-2
 same-length-2 c = search needs
 
--- src/first_failure.rt:20:1
 returns : tie.Need-returns
 returns c =
     let p : tie.Start = search needs in

@@ -6,36 +6,27 @@ use Rattle.table.proofs.Pairs.{length-pairsOf, length-pairsOf-over}
 use Rattle.matcher.proofs.FirstPairs.{standing-after, clash-place, until-end, until-clash}
 use Rattle.matcher.proofs.first_failure.join_until_clash.Statement.{statement}
 use Rattle.matcher.proofs.first_failure.join_until_clash.Tie as tie
-use Rattle.matcher.proofs.first_failure.join_until_clash.Reads as reads
-use Rattle.matcher.proofs.first_failure.join_until_clash.Lts as lts
-use Rattle.matcher.proofs.first_failure.join_first.Reads as join-first-reads
 
--- src/first_failure.rt:34:11
 join-first-requires : tie.Need-join-first-requires
 join-first-requires c κs =
     let p : tie.Start = search needs in
     (p .pre, omega (arith, length-pairsOf-over (p .args .list .now)))
 
--- src/first_failure.rt:35:24
 enum-told : tie.Need-enum-told
 enum-told c = search needs
 
--- src/first_failure.rt:36:25
 enum-known-at : tie.Need-enum-known-at
 enum-known-at c = search needs
 
--- src/first_failure.rt:37:26
 cast-before : tie.Need-cast-before
 cast-before c = search needs
 
--- src/first_failure.rt:37:26
 sub-before : tie.Need-sub-before
 sub-before c =
     let j : tie.After-join-first = search needs in
     let q : _ = clash-place (j .join-first .ensures .joined) (c .before .before .at .given .1) in
     omega (arith, q .numbers)
 
--- src/first_failure.rt:38:13
 join-first-requires-2 : tie.Need-join-first-requires-2
 join-first-requires-2 c κs =
     let p : tie.Start = search needs in
@@ -43,30 +34,24 @@ join-first-requires-2 c κs =
     let q : _ = clash-place (j .join-first .ensures .joined) (c .before .before .before .before .at .given .1) in
     (standing-after (p .pre) (j .join-first .ensures .lent), omega (arith, q .numbers, q .inside, length-pairsOf-over (p .args .list .now)))
 
--- src/first_failure.rt:29:1
 same-length : tie.Need-same-length
 same-length c = search needs
 
--- src/first_failure.rt:29:1
 same-length-2 : tie.Need-same-length-2
 same-length-2 c = search needs
 
--- src/first_failure.rt:29:1
 returns : tie.Need-returns
 returns c =
     let p : tie.Start = search needs in
     let j : tie.After-join-first = search needs in
     until-end (j .join-first .ensures) (c .enum-told .given .1) (omega (arith, length-pairsOf (p .args .list .now), length-pairsOf-over (p .args .list .now)))
 
--- src/first_failure.rt:29:1
 same-length-3 : tie.Need-same-length-3
 same-length-3 c = search needs
 
--- src/first_failure.rt:29:1
 same-length-4 : tie.Need-same-length-4
 same-length-4 c = search needs
 
--- src/first_failure.rt:29:1
 returns-2 : tie.Need-returns-2
 returns-2 c =
     let p : tie.Start = search needs in

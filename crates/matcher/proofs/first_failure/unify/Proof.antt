@@ -8,26 +8,16 @@ use Rattle.matcher.proofs.FirstPairs.{standing-after}
 use Rattle.matcher.proofs.Halving.{row-searchable, told, cycle-found, cycle-refused, clash-verdict, accepted-verdict}
 use Rattle.matcher.proofs.first_failure.unify.Statement.{statement}
 use Rattle.matcher.proofs.first_failure.unify.Tie as tie
-use Rattle.matcher.proofs.first_failure.unify.Reads as reads
-use Rattle.matcher.proofs.first_failure.unify.Lts as lts
-use Rattle.classes.proofs.count_joins.Reads as count-joins-reads
-use Rattle.cycles.proofs.reaches_itself.Reads as reaches-itself-reads
-use Rattle.matcher.proofs.first_failure.first_cycle.Reads as first-cycle-reads
-use Rattle.matcher.proofs.first_failure.join_until_clash.Reads as join-until-clash-reads
-use Rattle.rows.proofs.clear16.Reads as clear16-reads
 
--- src/first_failure.rt:78:9
 join-until-clash-requires : tie.Need-join-until-clash-requires
 join-until-clash-requires c κs = search needs
 
--- src/first_failure.rt:79:8
 reaches-itself-requires : tie.Need-reaches-itself-requires
 reaches-itself-requires c κs =
     let p : tie.Start = search needs in
     let u : tie.After-join-until-clash = search needs in
     row-searchable (standing-after (p .pre .0) (u .join-until-clash .ensures .lent)) (u .join-until-clash .ensures .inside) (u .join-until-clash .ensures .partitioned)
 
--- src/first_failure.rt:80:13
 first-cycle-requires : tie.Need-first-cycle-requires
 first-cycle-requires c κs =
     let p : tie.Start = search needs in
@@ -35,11 +25,9 @@ first-cycle-requires c κs =
     let r : tie.After-reaches-itself = search needs in
     cycle-found (p .pre .0) (u .join-until-clash .ensures) (r .reaches-itself .ensures) (c .before .before .if1 .taken)
 
--- src/first_failure.rt:81:9
 clear16-requires : tie.Need-clear16-requires
 clear16-requires c κs = search needs
 
--- src/first_failure.rt:82:42
 cast-t24 : tie.Need-cast-t24
 cast-t24 c =
     let p : tie.Start = search needs in
@@ -47,15 +35,12 @@ cast-t24 c =
     let f : tie.After-first-cycle = search needs in
     omega (arith, f .first-cycle .ensures .within, u .join-until-clash .ensures .inside, length-pairsOf (p .args .list .now), p .pre .0 .ready .few)
 
--- src/first_failure.rt:82:9
 same-length : tie.Need-same-length
 same-length c = search needs
 
--- src/first_failure.rt:82:9
 same-length-2 : tie.Need-same-length-2
 same-length-2 c = search needs
 
--- src/first_failure.rt:82:9
 returns : tie.Need-returns
 returns c =
     let p : tie.Start = search needs in
@@ -64,27 +49,21 @@ returns c =
     let r : tie.After-reaches-itself = search needs in
     cycle-refused (p .pre .0) (u .join-until-clash .ensures) (r .reaches-itself .ensures) (p .pre .1) (f .first-cycle .ensures) (c .before .before .clear16 .ensures) _ refl
 
--- src/first_failure.rt:85:9
 clear16-requires-2 : tie.Need-clear16-requires-2
 clear16-requires-2 c κs = search needs
 
--- src/first_failure.rt:86:43
 add-t32 : tie.Need-add-t32
 add-t32 c = search needs
 
--- src/first_failure.rt:86:42
 cast-t33 : tie.Need-cast-t33
 cast-t33 c = search needs
 
--- src/first_failure.rt:86:9
 same-length-3 : tie.Need-same-length-3
 same-length-3 c = search needs
 
--- src/first_failure.rt:86:9
 same-length-4 : tie.Need-same-length-4
 same-length-4 c = search needs
 
--- src/first_failure.rt:86:9
 returns-2 : tie.Need-returns-2
 returns-2 c =
     let p : tie.Start = search needs in
@@ -93,19 +72,15 @@ returns-2 c =
     clash-verdict (p .pre .1) (standing-after (p .pre .0) (u .join-until-clash .ensures .lent)) (u .join-until-clash .ensures) (told (r .reaches-itself .ensures) (c .before .before .before .before .before .if1 .left))
     (omega (arith, c .before .before .before .before .if2 .taken, length-pairsOf-over (p .args .list .now))) (c .before .before .clear162 .ensures) _ refl
 
--- src/first_failure.rt:88:23
 count-joins-requires : tie.Need-count-joins-requires
 count-joins-requires c κs = search needs
 
--- src/first_failure.rt:73:1
 same-length-5 : tie.Need-same-length-5
 same-length-5 c = search needs
 
--- src/first_failure.rt:73:1
 same-length-6 : tie.Need-same-length-6
 same-length-6 c = search needs
 
--- src/first_failure.rt:73:1
 returns-3 : tie.Need-returns-3
 returns-3 c =
     let p : tie.Start = search needs in
