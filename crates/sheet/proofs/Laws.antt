@@ -13,7 +13,7 @@ use lib.Dec.{eqb}
 use lib.ListN.{length, take, drop}
 use Rattle.words.specs.Word.{sameKind}
 use Rattle.words.specs.declared.kind.Kind.{Kind}
-use Rattle.graphs.specs.Graph.{Symbols, Graph, Node, Child, Steps, WellFormed}
+use Rattle.graphs.specs.Graph.{Symbols, Graph, Child, Steps, WellFormed}
 use Rattle.graphs.specs.Partition.{Pair, Sides, Clash, Cycle, ClassTable, joins}
 use Rattle.graphs.specs.Log.{_and_, counts, Join, Replayed, falseAt, ends, replay, allBelow, closed, ranked, clashes, Down, cycles, loops}
 use Rattle.graphs.proofs.Classes.{never}
@@ -22,12 +22,12 @@ use Rattle.graphs.proofs.Theorems.{log-class-table, log-no-clash, log-no-cycle,
 use Rattle.table.specs.Table.{kindAt, contentAt, nodeKind, graphOf}
 use Rattle.table.specs.Layout.{item, breakFrom}
 use Rattle.table.specs.Answers.{Answered}
-use Rattle.table.specs.Faults.{Job, badWord, badPointer, Repeats, pairsOf, odd, badSides, pairAt, Row, SIZE, ROOM, WORD, LAYOUT, POINTER, NAME, LOOP, LIST, ADDRESS, CLASH, CYCLE, number, Fault, size-fault, room-fault, word-fault, layout-fault, pointer-fault, name-fault, loop-fault, list-fault, address-fault, clash-fault, cycle-fault, matchOrder}
+use Rattle.table.specs.Faults.{Job, badWord, badPointer, Repeats, pairsOf, odd, badSides, pairAt, SIZE, ROOM, WORD, LAYOUT, POINTER, NAME, number, Fault, size-fault, room-fault, word-fault, layout-fault, pointer-fault, name-fault, loop-fault, list-fault, address-fault, clash-fault, cycle-fault, matchOrder}
 use Rattle.table.specs.Shaped.{Shaped}
 use Rattle.table.proofs.Children.{node-kind}
 use Rattle.table.proofs.Shape.{inside-kind}
 use Rattle.matcher.specs.Match.{Passes}
-use Rattle.matcher.specs.Stages.{ClearTo, Ready}
+use Rattle.matcher.specs.Stages.{ClearTo}
 use Rattle.matcher.proofs.Verdicts.{ready, list-so-far, accepted-answered, clash-answered, cycle-answered}
 use Rattle.sheet.specs.Sheet.{Example, jobWith, Holds}
 use Rattle.sheet.proofs.Certified.{isNone, repeatsAt, goodTable, goodList, Settled, Certificate, loop, settles, clash, cycle, endsIn, settled, sameRow, answers, nothingMade, graphIn, pairsIn, makes, settledBefore, passes, allPass}

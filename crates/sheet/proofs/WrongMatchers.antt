@@ -15,7 +15,7 @@ use lib.ListN.{length, getD, take, replicate, length-replicate, getD-replicate}
 use lib.Seq.{getD-take}
 use Rattle.rows.proofs.Laws.{cleared-zero}
 use Rattle.words.specs.Word.{kindOf}
-use Rattle.graphs.specs.Partition.{Pair, ClassTable, joins}
+use Rattle.graphs.specs.Partition.{ClassTable, joins}
 use Rattle.graphs.specs.Term.{Term, Terms, var, app, apply, applyAll, each, grown, tree, below, Unifies, answer}
 use Rattle.graphs.specs.Log.{_and_, allBelow}
 use Rattle.graphs.proofs.Classes.{never}
@@ -26,7 +26,7 @@ use Rattle.table.specs.Answers.{Answered}
 use Rattle.table.specs.Faults.{Job, pairsOf, Row, SIZE, ROOM, WORD, LAYOUT, POINTER, NAME, LOOP, LIST, ADDRESS, CLASH, CYCLE, number, Fault, matchOrder}
 use Rattle.checker.specs.Check.{zeroed}
 use Rattle.matcher.specs.declared.answer.Matched.{Matched}
-use Rattle.matcher.specs.Match.{numberOf, placeOf, joinsOf, jobOf, MatchOf, Passes}
+use Rattle.matcher.specs.Match.{numberOf, placeOf, joinsOf, jobOf, Passes}
 use Rattle.matcher.specs.Demands.{Met}
 use Rattle.matcher.proofs.Verdicts.{passed-none}
 use Rattle.matcher.proofs.Demands.{accepted-exactly, answer-makes-equal}
