@@ -1,8 +1,8 @@
 -- What the row of a replayed log proves.
 --
--- In order: keys by heads (`key-symbol` and on); the first node of a class by key names it (`first-names`); a sound row that is
--- closed is the class table, and has no clash; falling ranks show that there is no cycle; a sound row shows a clash and a cycle.
--- Assumes nothing.
+-- In order: ways down show a loop, falling ranks that there is none; keys by heads (`key-symbol` and on); the first node of a
+-- class by key names it (`first-names`); a sound row that is closed is the class table, and has no clash; falling ranks show
+-- that there is no cycle; a sound row shows a clash and a cycle. Assumes nothing.
 use mathlib.Core.Path.{_≡_, refl, sym, ap, _∙_, subst}
 use mathlib.Core.Logic.{⊎-elim}
 use mathlib.Core.Bool.{true, decide}
@@ -13,9 +13,73 @@ use borrow.Author.Tests.{ltb-true, eqb-true}
 use lib.ListN.{length, getD}
 use Rattle.graphs.specs.Graph.{Symbols, Head, nothing, variable, symbol, Graph, Node, variable-node, symbol-node, Child, Steps, one, more, WellFormed}
 use Rattle.graphs.specs.Partition.{Pair, _∈_, Sides, Same, itself, Clash, ClassStep, Cycle, Named, by-non-variable, by-variable, entry, ClassTable}
-use Rattle.graphs.specs.Log.{children, together, keyOf, key, holdsPairs, sameNames, agreesWith, agrees, closed, ranksFall, ranksFallAt, ranked, differFrom, differ, clashes, Down, isAmong, isBelow, leads, cycles}
+use Rattle.graphs.specs.Log.{children, together, keyOf, key, holdsPairs, sameNames, agreesWith, agrees, closed, ranksFall, ranksFallAt, ranked, differFrom, differ, clashes, Down, isAmong, isBelow, leads, cycles, leadsDown, loops}
 use Rattle.graphs.proofs.Classes.{never, same-labels, same-nodes}
 use Rattle.graphs.proofs.Replay.{both-true, either-true, decide-true, decide-not, all-below, Sound, one-entry-same, together-same}
+
+-- ---- children
+
+among : (y : ℕ) (xs : List ℕ) → isAmong y xs ≡ true → (i : ℕ) × (i < length xs) × (getD xs i 0 ≡ y)
+unfolding isAmong
+among y [] e = never (cc)
+among y (x ∷ xs) e =
+    ⊎-elim (λ t. (0, (omega arith), eqb-true x y t))
+    (λ t. let m : (i : ℕ) × (i < length xs) × (getD xs i 0 ≡ y) = among y xs t in (suc (m .0), (let h : m .0 < length xs = m .1 in omega arith), m .2))
+    (either-true e)
+
+module _ {S : Symbols} {G : Graph S} where
+  below-child : (x y : ℕ) → isBelow y (G .head x) ≡ true → Child G x y
+  unfolding isBelow
+  below-child x y e = go (G .head x) refl e
+    where
+      go : (h : Head S) → G .head x ≡ h → isBelow y h ≡ true → Child G x y
+      go nothing q t = never (cc)
+      go variable q t = never (cc)
+      go (symbol s xs) q t =
+          let m : (i : ℕ) × (i < length xs) × (getD xs i 0 ≡ y) = among y xs t in
+          (m .0, record { named = s; children = xs; stands = q; within = m .1; is = m .2 })
+
+  parent-node : {x y : ℕ} → Child G x y → Node G x
+  parent-node (i, d) = symbol-node (d .stands)
+
+  -- ways down by the graph's own children that come back are a loop
+  down-steps : (ways : List Down) {x y last : ℕ} → Child G x y → leadsDown G y ways last ≡ true → Steps (Child G) x last
+  unfolding leadsDown
+  down-steps [] {x} {y} {last} down e = one (subst (Child G x) (eqb-true y last e) down)
+  down-steps (d ∷ ways) {x} {y} {last} down e =
+      more (subst (Child G x) (eqb-true y (d .parent) (both-true e .0)) down)
+      (down-steps ways (below-child (d .parent) (d .child) (both-true (both-true e .1) .0)) (both-true (both-true e .1) .1))
+
+  pub loops-loop : (ways : List Down) → loops G ways ≡ true → (x : ℕ) × Steps (Child G) x x
+  unfolding loops
+  loops-loop [] e = never (cc)
+  loops-loop (d ∷ ways) e = (d .parent, down-steps ways (below-child (d .parent) (d .child) (both-true e .0)) (both-true e .1))
+
+-- ---- falling ranks
+
+ranks-fall : (row ranks : List ℕ) (r : ℕ) (ys : List ℕ) → ranksFall row ranks r ys ≡ true → (i : ℕ) → i < length ys → entry ranks (entry row (getD ys i 0)) < r
+unfolding ranksFall
+ranks-fall row ranks r [] e i h = absurd (omega arith)
+ranks-fall row ranks r (y ∷ ys) e zero h = ltb-true (entry ranks (entry row y)) r (both-true e .0)
+ranks-fall row ranks r (y ∷ ys) e (suc i) h = ranks-fall row ranks r ys (both-true e .1) i (omega arith)
+
+module _ {S : Symbols} {G : Graph S} (inside : (x : ℕ) → Node G x → x < G .size) (row ranks : List ℕ) (falls : ranked G row ranks ≡ true) where
+  child-falls : {x y : ℕ} → Child G x y → entry ranks (entry row y) < entry ranks (entry row x)
+  unfolding ranked ranksFallAt
+  child-falls {x} {y} (i, d) =
+      subst (λ (z : ℕ). entry ranks (entry row z) < entry ranks (entry row x)) (d .is)
+      (ranks-fall row ranks (entry ranks (entry row x)) (d .children)
+      (subst (λ (h : Head S). ranksFallAt row ranks x h ≡ true) (d .stands)
+      (all-below (λ z. ranksFallAt row ranks z (G .head z)) (G .size) falls x (inside x (symbol-node (d .stands)))))
+      i (d .within))
+
+  children-fall : {x y : ℕ} → Steps (Child G) x y → entry ranks (entry row y) < entry ranks (entry row x)
+  children-fall (one c) = child-falls c
+  children-fall (more c rest) = omega (arith, child-falls c, children-fall rest)
+
+  -- whatever the row is
+  pub ranked-no-loop : (x : ℕ) → Steps (Child G) x x → ⊥
+  ranked-no-loop x s = omega (arith, children-fall s)
 
 -- ---- keys
 
@@ -110,23 +174,8 @@ module _ {S : Symbols} {G : Graph S} {pairs : List Pair} (wf : WellFormed G) (si
         cc)
 
     module _ (ranks : List ℕ) (falls : ranked G row ranks ≡ true) where
-      ranks-fall : (r : ℕ) (ys : List ℕ) → ranksFall row ranks r ys ≡ true → (i : ℕ) → i < length ys → entry ranks (entry row (getD ys i 0)) < r
-      unfolding ranksFall
-      ranks-fall r [] e i h = absurd (omega arith)
-      ranks-fall r (y ∷ ys) e zero h = ltb-true (entry ranks (entry row y)) r (both-true e .0)
-      ranks-fall r (y ∷ ys) e (suc i) h = ranks-fall r ys (both-true e .1) i (omega arith)
-
-      child-falls : {x y : ℕ} → Child G x y → entry ranks (entry row y) < entry ranks (entry row x)
-      unfolding ranked ranksFallAt
-      child-falls {x} {y} (i, d) =
-          subst (λ (z : ℕ). entry ranks (entry row z) < entry ranks (entry row x)) (d .is)
-          (ranks-fall (entry ranks (entry row x)) (d .children)
-          (subst (λ (h : Head S). ranksFallAt row ranks x h ≡ true) (d .stands)
-          (all-below (λ z. ranksFallAt row ranks z (G .head z)) (G .size) falls x (wf .inside x (symbol-node (d .stands)))))
-          i (d .within))
-
       step-falls : {x y : ℕ} → ClassStep G pairs x y → entry ranks (entry row y) < entry ranks (entry row x)
-      step-falls c = omega (arith, ap (entry ranks) (one-name (c .from)), child-falls (c .down), ap (entry ranks) (one-name (c .into)))
+      step-falls c = omega (arith, ap (entry ranks) (one-name (c .from)), child-falls (wf .inside) row ranks falls (c .down), ap (entry ranks) (one-name (c .into)))
 
       steps-fall : {x y : ℕ} → Steps (ClassStep G pairs) x y → entry ranks (entry row y) < entry ranks (entry row x)
       steps-fall (one c) = step-falls c
@@ -163,28 +212,6 @@ module _ {S : Symbols} {G : Graph S} {pairs : List Pair} (wf : WellFormed G) (si
         left nothing ex t = never (cc)
         left variable ex t = never (cc)
         left (symbol s xs) ex t = right s xs ex (G .head y) refl t
-
-    among : (y : ℕ) (xs : List ℕ) → isAmong y xs ≡ true → (i : ℕ) × (i < length xs) × (getD xs i 0 ≡ y)
-    unfolding isAmong
-    among y [] e = never (cc)
-    among y (x ∷ xs) e =
-        ⊎-elim (λ t. (0, (omega arith), eqb-true x y t))
-        (λ t. let m : (i : ℕ) × (i < length xs) × (getD xs i 0 ≡ y) = among y xs t in (suc (m .0), (let h : m .0 < length xs = m .1 in omega arith), m .2))
-        (either-true e)
-
-    below-child : (x y : ℕ) → isBelow y (G .head x) ≡ true → Child G x y
-    unfolding isBelow
-    below-child x y e = go (G .head x) refl e
-      where
-        go : (h : Head S) → G .head x ≡ h → isBelow y h ≡ true → Child G x y
-        go nothing q t = never (cc)
-        go variable q t = never (cc)
-        go (symbol s xs) q t =
-            let m : (i : ℕ) × (i < length xs) × (getD xs i 0 ≡ y) = among y xs t in
-            (m .0, record { named = s; children = xs; stands = q; within = m .1; is = m .2 })
-
-    parent-node : {x y : ℕ} → Child G x y → Node G x
-    parent-node (i, d) = symbol-node (d .stands)
 
     -- down from x, and along the ways into the class of `last`
     leads-steps : (ways : List Down) {x y last : ℕ} → Child G x y → Node G last → leads G row y ways last ≡ true → Steps (ClassStep G pairs) x last

@@ -8,12 +8,12 @@ use mathlib.Core.Path.{_≡_}
 use mathlib.Core.Logic.{_⊎_, _↔_}
 use mathlib.Core.Bool.{true}
 use mathlib.Core.List.{List}
-use Prim.Native.Nat.{ℕ, _≤_}
+use Prim.Native.Nat.{ℕ, _≤_, _<_}
 use lib.ListN.{take}
-use Rattle.graphs.specs.Graph.{Symbols, variable, Graph, Node, WellFormed}
+use Rattle.graphs.specs.Graph.{Symbols, variable, Graph, Node, Child, Steps, WellFormed}
 use Rattle.graphs.specs.Partition.{Pair, _∈_, Sides, Same, Closed, Clash, ClassStep, Cycle, entry, ClassTable}
 use Rattle.graphs.specs.Term.{Replacement, _then_, grown, below, Unifies, FollowsRule, answer}
-use Rattle.graphs.specs.Log.{Join, ends, replay, closed, ranked, clashes, Down, cycles}
+use Rattle.graphs.specs.Log.{Join, ends, replay, closed, ranked, clashes, Down, cycles, loops}
 use Rattle.graphs.proofs.Finite as finite
 use Rattle.graphs.proofs.Classes as classes
 use Rattle.graphs.proofs.Trees as trees
@@ -137,3 +137,12 @@ module _ {S : Symbols} {G : Graph S} {pairs : List Pair} (wf : WellFormed G) (si
   -- So every list has a class table, and then no clash; or it has a clash.
   pub class-table-or-clash : ((table : List ℕ) × ClassTable G pairs table × (Clash G pairs → ⊥)) ⊎ Clash G pairs
   class-table-or-clash = existence.class-table-or-clash wf sides
+
+module _ {S : Symbols} {G : Graph S} where
+  -- Ranks that fall from node to child, under whatever names a row gives them, show that no node reaches itself.
+  pub ranks-no-loop : ((x : ℕ) → Node G x → x < G .size) → (row ranks : List ℕ) → ranked G row ranks ≡ true → (x : ℕ) → Steps (Child G) x x → ⊥
+  ranks-no-loop = certificates.ranked-no-loop
+
+  -- Ways down that lead from a node back to it are a loop.
+  pub ways-loop : (ways : List Down) → loops G ways ≡ true → (x : ℕ) × Steps (Child G) x x
+  ways-loop = certificates.loops-loop

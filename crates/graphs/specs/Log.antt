@@ -196,3 +196,13 @@ leads G row x (d ∷ ds) last = eqb (entry row x) (entry row (d .parent)) and (i
 unfoldable pub cycles : {S : Symbols} → Graph S → List ℕ → List Down → Bool
 cycles G row [] = false
 cycles G row (d ∷ ds) = isBelow (d .child) (G .head (d .parent)) and leads G row (d .child) ds (d .parent)
+
+-- from x down along the ways to `last`, by the graph's own children
+unfoldable pub leadsDown : {S : Symbols} → Graph S → ℕ → List Down → ℕ → Bool
+leadsDown G x [] last = eqb x last
+leadsDown G x (d ∷ ds) last = eqb x (d .parent) and (isBelow (d .child) (G .head (d .parent)) and leadsDown G (d .child) ds last)
+
+-- the ways lead from a node back to it
+unfoldable pub loops : {S : Symbols} → Graph S → List Down → Bool
+loops G [] = false
+loops G (d ∷ ds) = isBelow (d .child) (G .head (d .parent)) and leadsDown G (d .child) ds (d .parent)

@@ -3,3 +3,4 @@ pub mod MeetingLaws
 pub mod MeetingsTable
 pub mod Tests
 pub mod WordLaws
+pub mod OneField

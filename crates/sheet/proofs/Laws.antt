@@ -1,0 +1,307 @@
+-- What a row holds that passes by a certificate: `passes-holds`, and of a whole list, `all-pass-hold`.
+--
+-- In order: tests and what they show; the table; rows that do not apply (`clear`); the row by each certificate. Assumes nothing.
+use mathlib.Core.Path.{_≡_, refl, sym, ap, _∙_, subst}
+use mathlib.Core.Bool.{Bool, true, false, not}
+use mathlib.Core.Logic.{inl, inr, ⊎-elim}
+use mathlib.Core.List.{List, [], _∷_, List·Memᴰ, List·Memᴰ·head, List·Memᴰ·tail}
+use mathlib.Core.Option.{Option, none, some}
+use Prim.Native.Nat.{ℕ, _+_, _*_, _≤_, _<_}
+use native.Mathlib.Omega.{arith}
+use borrow.Author.Tests.{eq-eqb, eqb-true, leb-true, ltb-true, not-true}
+use lib.Dec.{eqb}
+use lib.ListN.{length, take, drop}
+use Rattle.words.specs.Word.{sameKind}
+use Rattle.words.specs.declared.kind.Kind.{Kind}
+use Rattle.graphs.specs.Graph.{Symbols, Graph, Child, Steps, WellFormed}
+use Rattle.graphs.specs.Partition.{Pair, Sides, Clash, Cycle, ClassTable, joins}
+use Rattle.graphs.specs.Log.{_and_, counts, Join, Replayed, falseAt, ends, replay, allBelow, closed, ranked, clashes, Down, cycles, loops}
+use Rattle.graphs.proofs.Classes.{never}
+use Rattle.graphs.proofs.Replay.{both-true, all-below}
+use Rattle.graphs.proofs.Theorems.{log-class-table, log-no-clash, log-no-cycle, log-clash, log-cycle, ranks-no-loop, ways-loop}
+use Rattle.table.specs.Table.{kindAt, contentAt, nodeKind, graphOf}
+use Rattle.table.specs.Layout.{item, breakFrom}
+use Rattle.table.specs.Answers.{Answered}
+use Rattle.table.specs.Faults.{Job, badWord, badPointer, Repeats, pairsOf, odd, badSides, pairAt, SIZE, ROOM, WORD, LAYOUT, POINTER, NAME, number, Fault, size-fault, room-fault, word-fault, layout-fault, pointer-fault, name-fault, loop-fault, list-fault, address-fault, clash-fault, cycle-fault, matchOrder}
+use Rattle.table.specs.Shaped.{Shaped}
+use Rattle.table.proofs.Children.{node-kind}
+use Rattle.table.proofs.Shape.{inside-kind}
+use Rattle.matcher.specs.Match.{Passes}
+use Rattle.matcher.specs.Stages.{ClearTo}
+use Rattle.matcher.proofs.Verdicts.{ready, list-so-far, accepted-answered, clash-answered, cycle-answered}
+use Rattle.sheet.specs.Sheet.{Example, jobWith, Holds}
+use Rattle.sheet.proofs.Certified.{isNone, repeatsAt, goodTable, goodList, Settled, Certificate, loop, settles, clash, cycle, endsIn, settled, sameRow, answers, nothingMade, graphIn, pairsIn, makes, settledBefore, passes, allPass}
+
+-- ---- tests and what they show
+
+fails : {b : Bool} → not b ≡ true → b ≡ true → ⊥
+fails {b} f e = let g : b ≡ false = not-true b f in never (cc)
+
+is-none : (o : Option ℕ) → isNone o ≡ true → o ≡ none
+unfolding isNone
+is-none none e = refl
+is-none (some a) e = never (cc)
+
+same-row : (xs ys : List ℕ) → sameRow xs ys ≡ true → xs ≡ ys
+unfolding sameRow
+same-row [] [] e = refl
+same-row [] (y ∷ ys) e = never (cc)
+same-row (x ∷ xs) [] e = never (cc)
+same-row (x ∷ xs) (y ∷ ys) e =
+    let first : x ≡ y = eqb-true x y (both-true e .0) in
+    let rest : xs ≡ ys = same-row xs ys (both-true e .1) in
+    λ i. first i ∷ rest i
+
+ends-in : (r : Replayed) (test : List ℕ → Bool) → endsIn r test ≡ true → (row : List ℕ) × (r ≡ ends row) × (test row ≡ true)
+unfolding endsIn
+ends-in (falseAt k) test e = never (cc)
+ends-in (ends row) test e = (row, refl, e)
+
+-- ---- the table
+
+-- what a table has that passes its test
+record Sent (t : List ℕ) : Type 0 where
+  pub shaped : Shaped t
+  pub small : length t ≤ 4096
+  pub names : (a : ℕ) → Repeats t a → ⊥
+
+repeats-shown : (t : List ℕ) (a : ℕ) (r : Repeats t a) → repeatsAt t a (r .earlier) ≡ true
+unfolding repeatsAt _and_
+repeats-shown t a r =
+    ap (λ (k : Kind). sameKind k Kind.Variable and sameKind (kindAt t (r .earlier)) Kind.Variable and eqb (contentAt t (r .earlier)) (contentAt t a)) (r .later)
+    ∙ ap (λ (k : Kind). sameKind k Kind.Variable and eqb (contentAt t (r .earlier)) (contentAt t a)) (r .variable-there)
+    ∙ eq-eqb (contentAt t (r .earlier)) (contentAt t a) (r .same-label)
+
+good-sent : (t : List ℕ) → goodTable t ≡ true → Sent t
+unfolding goodTable
+good-sent t e =
+    let size : counts (length t) 4096 ≡ true = both-true e .0 in
+    let words : allBelow (λ a. not (badWord t a)) (length t) ≡ true = both-true (both-true e .1) .0 in
+    let whole : isNone (breakFrom item 1 (drop 1 t)) ≡ true = both-true (both-true (both-true e .1) .1) .0 in
+    let pointers : allBelow (λ a. not (badPointer t a)) (length t) ≡ true = both-true (both-true (both-true (both-true e .1) .1) .1) .0 in
+    let names : allBelow (λ a. allBelow (λ b. not (repeatsAt t a b)) a) (length t) ≡ true = both-true (both-true (both-true (both-true e .1) .1) .1) .1 in
+    record {
+      shaped =
+          record {
+            some-word = ltb-true 0 (length t) (both-true size .0);
+            words = λ a h. fails (all-below (λ b. not (badWord t b)) (length t) words a h);
+            whole = is-none (breakFrom item 1 (drop 1 t)) whole;
+            pointers = λ a h. fails (all-below (λ b. not (badPointer t b)) (length t) pointers a h);
+          };
+      small = leb-true (length t) 4096 (both-true size .1);
+      names = λ a r.
+          fails
+          (all-below (λ b. not (repeatsAt t a b)) a
+          (all-below (λ b. allBelow (λ c. not (repeatsAt t b c)) b) (length t) names a (inside-kind t a nodeKind refl (ap nodeKind (r .later))))
+          (r .earlier) (r .before))
+          (repeats-shown t a r);
+    }
+
+-- ---- rows that do not apply
+
+good-list : (t list : List ℕ) → goodList t list ≡ true
+    → (odd list ≡ false) × (length list ≤ 512) × ((k : ℕ) → k < length (pairsOf list) → badSides t (pairAt (pairsOf list) k) ≡ true → ⊥)
+unfolding goodList
+good-list t list e = (
+  not-true (odd list) (both-true e .0),
+  leb-true (length list) 512 (both-true (both-true e .1) .0),
+  λ k h. fails (all-below (λ j. not (badSides t (pairAt (pairsOf list) j))) (length (pairsOf list)) (both-true (both-true e .1) .1) k h),
+)
+
+module _ (e : Example) (class-room work-room : ℕ) (class-enough : length (e .table) ≤ class-room) (work-enough : 4 * length (e .table) ≤ work-room) (sent : Sent (e .table)) where
+  -- None of the rows 1 to k applies, for a k up to 9.
+  clear : (k : ℕ) → k ≤ 9 → (7 ≤ k → (x : ℕ) → Steps (Child (graphIn e)) x x → ⊥) → (8 ≤ k → goodList (e .table) (e .list) ≡ true) → ClearTo k (jobWith e class-room work-room)
+  unfolding number
+  clear k top no-loop list row p h (size-fault x) = ⊎-elim (λ z. omega (arith, sent .shaped .some-word)) (λ z. omega (arith, sent .small)) x
+  clear k top no-loop list row p h (room-fault x) = ⊎-elim (λ z. omega arith) (λ z. omega arith) x
+  clear k top no-loop list row p h (word-fault l) = sent .shaped .words p (l .has .0) (l .has .1)
+  clear k top no-loop list row p h (layout-fault q) =
+      let w : breakFrom item 1 (drop 1 (e .table)) ≡ none = sent .shaped .whole in
+      let b : breakFrom item 1 (drop 1 (e .table)) ≡ some p = q in
+      never (cc)
+  clear k top no-loop list row p h (pointer-fault l) = sent .shaped .pointers p (l .has .0) (l .has .1)
+  clear k top no-loop list row p h (name-fault l) = sent .names p (l .has)
+  clear k top no-loop list row p h (loop-fault x s) = no-loop h x s
+  clear k top no-loop list row p h (list-fault x) =
+      let good : (odd (e .list) ≡ false) × (length (e .list) ≤ 512) × ((k : ℕ) → k < length (pairsIn e) → badSides (e .table) (pairAt (pairsIn e) k) ≡ true → ⊥) = good-list (e .table) (e .list) (list h) in
+      ⊎-elim (λ o. let v : odd (e .list) ≡ true = o in let u : odd (e .list) ≡ false = good .0 in never (cc)) (λ l. omega (arith, good .1)) x
+  clear k top no-loop list row p h (address-fault {i} l) = good-list (e .table) (e .list) (list (omega arith)) .2 i (l .has .0) (l .has .1)
+  clear k top no-loop list row p h (clash-fault i c n m) = omega arith
+  clear k top no-loop list row p h (cycle-fault i c f n m) = omega arith
+
+-- ---- the answer, place, entries and joins
+
+as-said : (e : Example) (job : Job) (a p : ℕ) → answers e a p ≡ true → Answered number (Fault job) matchOrder a p → Answered number (Fault job) matchOrder (e .answer) (e .place)
+unfolding answers
+as-said e job a p t answered =
+    subst (λ (b : ℕ). Answered number (Fault job) matchOrder b (e .place)) (sym (eqb-true (e .answer) a (both-true t .0)))
+    (subst (λ (q : ℕ). Answered number (Fault job) matchOrder a q) (sym (eqb-true (e .place) p (both-true t .1))) answered)
+
+answer-said : (e : Example) (a p : ℕ) → answers e a p ≡ true → e .answer ≡ a
+unfolding answers
+answer-said e a p t = eqb-true (e .answer) a (both-true t .0)
+
+none-made : (e : Example) → nothingMade e ≡ true → (e .entries ≡ []) × (e .joins ≡ 0)
+unfolding nothingMade
+none-made e t = (same-row (e .entries) [] (both-true t .0), eqb-true (e .joins) 0 (both-true t .1))
+
+-- ---- a loop
+
+loop-answered : (job : Job) → ClearTo 6 job → (x : ℕ) → Steps (Child (graphOf (job .table))) x x → Answered number (Fault job) matchOrder 7 0
+unfolding number
+loop-answered job free x s =
+    inr (λ q. free SIZE q (omega arith), inr (λ q. free ROOM q (omega arith), inr (λ q. free WORD q (omega arith), inr (λ q. free LAYOUT q (omega arith), inr (λ q. free POINTER q (omega arith), inr (λ q. free NAME q (omega arith), inl (refl, loop-fault x s)))))))
+
+-- ---- a settled list
+
+-- what a settled list has
+record Settles {S : Symbols} (G : Graph S) (pairs : List Pair) (s : Settled) (test : List ℕ → Bool) : Type 0 where
+  pub row : List ℕ
+  pub replayed : replay G pairs (s .log) ≡ ends row
+  pub shut : closed G pairs row ≡ true
+  pub falls : ranked G row (s .ranks) ≡ true
+  pub tested : test row ≡ true
+
+settled-shown : {S : Symbols} (G : Graph S) (pairs : List Pair) (s : Settled) (test : List ℕ → Bool) → settled G pairs s test ≡ true → Settles G pairs s test
+unfolding settled
+settled-shown G pairs s test t =
+    let found : (row : List ℕ) × (replay G pairs (s .log) ≡ ends row) × ((closed G pairs row and ranked G row (s .ranks) and test row) ≡ true) =
+    ends-in (replay G pairs (s .log)) (λ row. closed G pairs row and ranked G row (s .ranks) and test row) t in
+    record {
+      row = found .0;
+      replayed = found .1;
+      shut = both-true (found .2) .0;
+      falls = both-true (both-true (found .2) .1) .0;
+      tested = both-true (both-true (found .2) .1) .1;
+    }
+
+-- ranks that fall from class to class fall from node to child
+no-loop-in : (e : Example) (row ranks : List ℕ) → ranked (graphIn e) row ranks ≡ true → (x : ℕ) → Steps (Child (graphIn e)) x x → ⊥
+no-loop-in e = ranks-no-loop (λ x n. inside-kind (e .table) x nodeKind refl (node-kind (e .table) x n))
+
+module _ (e : Example) (sent : Sent (e .table)) (list : goodList (e .table) (e .list) ≡ true) (no-loop : (x : ℕ) → Steps (Child (graphIn e)) x x → ⊥) where
+  all-clear : (class-room work-room : ℕ) → length (e .table) ≤ class-room → 4 * length (e .table) ≤ work-room → Passes (jobWith e class-room work-room)
+  all-clear c w class-enough work-enough = clear e c w class-enough work-enough sent 9 (omega arith) (λ h. no-loop) (λ h. list)
+
+  least : Passes (jobWith e (length (e .table)) (4 * length (e .table)))
+  least = all-clear (length (e .table)) (4 * length (e .table)) (omega arith) (omega arith)
+
+  formed : WellFormed (graphIn e)
+  formed = ready least .well-formed
+
+  sides : Sides (graphIn e) (pairsIn e)
+  sides = ready least .sides
+
+  sides-to : (k : ℕ) → Sides (graphIn e) (take k (pairsIn e))
+  sides-to k p m = sides p (list-so-far least k p m)
+
+  settles-no-clash : {pairs : List Pair} {s : Settled} {test : List ℕ → Bool} → Sides (graphIn e) pairs → Settles (graphIn e) pairs s test → Clash (graphIn e) pairs → ⊥
+  settles-no-clash {pairs} {s} on found = log-no-clash formed on (s .log) (found .replayed) (found .shut)
+
+  settles-no-cycle : {pairs : List Pair} {s : Settled} {test : List ℕ → Bool} → Sides (graphIn e) pairs → Settles (graphIn e) pairs s test → Cycle (graphIn e) pairs → ⊥
+  settles-no-cycle {pairs} {s} on found = log-no-cycle formed on (s .log) (found .replayed) (found .shut) (s .ranks) (found .falls)
+
+  settles-holds : (s : Settled) → answers e 0 0 ≡ true → Settles (graphIn e) (pairsIn e) s (makes e) → Holds e
+  unfolding makes
+  settles-holds s said found =
+      let rows : found .row ≡ e .entries = same-row (found .row) (e .entries) (both-true (found .tested) .0) in
+      record {
+        answered = λ c w class-enough work-enough.
+            as-said e (jobWith e c w) 0 0 said
+            (accepted-answered (all-clear c w class-enough work-enough) (settles-no-clash sides found) (settles-no-cycle sides found));
+        if-accepted = λ z. (
+          subst (ClassTable (graphIn e) (pairsIn e)) rows (log-class-table formed sides (s .log) (found .replayed) (found .shut)),
+          ap (joins (graphIn e)) (sym rows) ∙ eqb-true (joins (graphIn e) (found .row)) (e .joins) (both-true (found .tested) .1),
+        );
+        if-refused = λ z. absurd (z (answer-said e 0 0 said));
+      }
+
+-- ---- a refused list
+
+-- A refused row holds if its answer is the table of numbers' and it has neither entries nor joins.
+refused-holds : (e : Example) (a p : ℕ) → 0 < a → answers e a p ≡ true → nothingMade e ≡ true
+    → ((class-room work-room : ℕ) → length (e .table) ≤ class-room → 4 * length (e .table) ≤ work-room → Answered number (Fault (jobWith e class-room work-room)) matchOrder a p)
+    → Holds e
+refused-holds e a p positive said made answered =
+    record {
+      answered = λ c w class-enough work-enough. as-said e (jobWith e c w) a p said (answered c w class-enough work-enough);
+      if-accepted = λ z. absurd (omega (arith, answer-said e a p said));
+      if-refused = λ z. none-made e made;
+    }
+
+-- what a list has that is settled before a place
+record Before (e : Example) (i : ℕ) (s : Settled) : Type 0 where
+  pub sent : Sent (e .table)
+  pub list : goodList (e .table) (e .list) ≡ true
+  pub made : nothingMade e ≡ true
+  pub within : i < length (pairsIn e)
+  pub found : Settles (graphIn e) (take i (pairsIn e)) s (λ row. true)
+
+before-shown : (e : Example) (i : ℕ) (s : Settled) → settledBefore e i s ≡ true → Before e i s
+unfolding settledBefore
+before-shown e i s t =
+    record {
+      sent = good-sent (e .table) (both-true t .0);
+      list = both-true (both-true t .1) .0;
+      made = both-true (both-true (both-true t .1) .1) .0;
+      within = ltb-true i (length (pairsIn e)) (both-true (both-true (both-true (both-true t .1) .1) .1) .0);
+      found = settled-shown (graphIn e) (take i (pairsIn e)) s (λ row. true) (both-true (both-true (both-true (both-true t .1) .1) .1) .1);
+    }
+
+module _ (e : Example) (i : ℕ) (s : Settled) (b : Before e i s) (log : List Join) where
+  no-loop-before : (x : ℕ) → Steps (Child (graphIn e)) x x → ⊥
+  no-loop-before = no-loop-in e (b .found .row) (s .ranks) (b .found .falls)
+
+  clash-holds : (x y : ℕ) → answers e 10 (i + 1) ≡ true
+      → endsIn (replay (graphIn e) (take (i + 1) (pairsIn e)) log) (λ row. clashes (graphIn e) row x y) ≡ true → Holds e
+  clash-holds x y said met =
+      let end : (row : List ℕ) × (replay (graphIn e) (take (i + 1) (pairsIn e)) log ≡ ends row) × (clashes (graphIn e) row x y ≡ true) =
+      ends-in (replay (graphIn e) (take (i + 1) (pairsIn e)) log) (λ row. clashes (graphIn e) row x y) met in
+      refused-holds e 10 (i + 1) (omega arith) said (b .made)
+      (λ c w class-enough work-enough.
+      clash-answered (all-clear e (b .sent) (b .list) no-loop-before c w class-enough work-enough) i (b .within)
+      (log-clash (formed e (b .sent) (b .list) no-loop-before) (sides-to e (b .sent) (b .list) no-loop-before (i + 1)) log (end .1) x y (end .2))
+      (settles-no-clash e (b .sent) (b .list) no-loop-before (sides-to e (b .sent) (b .list) no-loop-before i) (b .found))
+      (settles-no-cycle e (b .sent) (b .list) no-loop-before (sides-to e (b .sent) (b .list) no-loop-before i) (b .found)))
+
+  cycle-holds : (ways : List Down) → answers e 11 (i + 1) ≡ true
+      → endsIn (replay (graphIn e) (take (i + 1) (pairsIn e)) log) (λ row. closed (graphIn e) (take (i + 1) (pairsIn e)) row and cycles (graphIn e) row ways) ≡ true → Holds e
+  cycle-holds ways said met =
+      let end : (row : List ℕ) × (replay (graphIn e) (take (i + 1) (pairsIn e)) log ≡ ends row) × ((closed (graphIn e) (take (i + 1) (pairsIn e)) row and cycles (graphIn e) row ways) ≡ true) =
+      ends-in (replay (graphIn e) (take (i + 1) (pairsIn e)) log) (λ row. closed (graphIn e) (take (i + 1) (pairsIn e)) row and cycles (graphIn e) row ways) met in
+      refused-holds e 11 (i + 1) (omega arith) said (b .made)
+      (λ c w class-enough work-enough.
+      cycle-answered (all-clear e (b .sent) (b .list) no-loop-before c w class-enough work-enough) i (i + 1) (b .within) (omega arith)
+      (log-cycle (formed e (b .sent) (b .list) no-loop-before) (sides-to e (b .sent) (b .list) no-loop-before (i + 1)) log (end .1) ways (both-true (end .2) .1))
+      (settles-no-cycle e (b .sent) (b .list) no-loop-before (sides-to e (b .sent) (b .list) no-loop-before i) (b .found))
+      (log-no-clash (formed e (b .sent) (b .list) no-loop-before) (sides-to e (b .sent) (b .list) no-loop-before (i + 1)) log (end .1) (both-true (end .2) .0)))
+
+-- ---- the row by its certificate
+
+pub passes-holds : (e : Example) (c : Certificate) → passes e c ≡ true → Holds e
+unfolding passes
+passes-holds e (loop ways) t =
+    let sent : Sent (e .table) = good-sent (e .table) (both-true (both-true t .1) .0) in
+    let rest : (nothingMade e ≡ true) × (loops (graphIn e) ways ≡ true) = both-true (both-true (both-true t .1) .1) in
+    let found : (x : ℕ) × Steps (Child (graphIn e)) x x = ways-loop ways (rest .1) in
+    refused-holds e 7 0 (omega arith) (both-true t .0) (rest .0)
+    (λ c w class-enough work-enough.
+    loop-answered (jobWith e c w) (clear e c w class-enough work-enough sent 6 (omega arith) (λ h. absurd (omega arith)) (λ h. absurd (omega arith))) (found .0) (found .1))
+passes-holds e (settles s) t =
+    let sent : Sent (e .table) = good-sent (e .table) (both-true (both-true t .1) .0) in
+    let rest : (goodList (e .table) (e .list) ≡ true) × (settled (graphIn e) (pairsIn e) s (makes e) ≡ true) = both-true (both-true (both-true t .1) .1) in
+    let found : Settles (graphIn e) (pairsIn e) s (makes e) = settled-shown (graphIn e) (pairsIn e) s (makes e) (rest .1) in
+    settles-holds e sent (rest .0) (no-loop-in e (found .row) (s .ranks) (found .falls)) s (both-true t .0) found
+passes-holds e (clash i before log x y) t =
+    clash-holds e i before (before-shown e i before (both-true (both-true t .1) .0)) log x y (both-true t .0) (both-true (both-true t .1) .1)
+passes-holds e (cycle i before log ways) t =
+    cycle-holds e i before (before-shown e i before (both-true (both-true t .1) .0)) log ways (both-true t .0) (both-true (both-true t .1) .1)
+
+-- ---- the whole list
+
+pub all-pass-hold : (es : List Example) (cs : List Certificate) → allPass es cs ≡ true → (e : Example) → List·Memᴰ e es → Holds e
+unfolding allPass
+all-pass-hold es [] t e (List·Memᴰ·head {x = f} {xs = rest} q) = never (cc)
+all-pass-hold es [] t e (List·Memᴰ·tail {x = f} {xs = rest} m) = never (cc)
+all-pass-hold es (c ∷ cs) t e (List·Memᴰ·head {x = f} {xs = rest} q) = subst Holds (sym q) (passes-holds f c (both-true t .0))
+all-pass-hold es (c ∷ cs) t e (List·Memᴰ·tail {x = f} {xs = rest} m) = all-pass-hold rest cs (both-true t .1) e m

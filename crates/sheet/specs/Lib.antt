@@ -1,0 +1,3 @@
+-- The sheet as data, and what it says; what a matcher is, and when one meets the contract.
+pub mod Sheet
+pub mod Matcher
