@@ -9,6 +9,7 @@ pub mod Linked
 pub mod Links
 pub mod Moves
 pub mod OneByOne
+pub mod OneJoin
 pub mod Outcomes
 pub mod OwnClasses
 pub mod Shortened

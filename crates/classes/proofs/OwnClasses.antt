@@ -12,9 +12,8 @@ use lib.Seq.{take-at}
 use Rattle.words.specs.declared.kind.Kind.{Kind}
 use Rattle.words.specs.declared.kind.Kind.the-variants.{Variable, Constant, Function, Pointer, Count, NoWord}
 use Rattle.rows.proofs.Laws.{Built, built-more}
-use Rattle.graphs.specs.Graph.{Symbols, Graph, symbol, Child, WellFormed}
-use Rattle.graphs.proofs.Finite.{steps-map}
-use Rattle.graphs.specs.Partition.{Sides, Same, Clash, ClassStep, Cycle, ClassTable, entry, isNode, bit, count, joins, nodes, classes}
+use Rattle.graphs.specs.Graph.{Symbols, Graph, WellFormed}
+use Rattle.graphs.specs.Partition.{Sides, Same, ClassTable, entry, isNode, bit, count, joins, nodes, classes}
 use Rattle.graphs.specs.Log.{apart, key}
 use Rattle.graphs.proofs.Classes.{same-labels}
 use Rattle.graphs.proofs.Replay.{apart-length, apart-entry, apart-sound, Sound}
@@ -59,27 +58,13 @@ module _ {S : Symbols} (G : Graph S) where
   none-sides : Sides G []
   none-sides p m = absurd (List·Memᴰ·not-nil m)
 
-  pub none-same : {x y : ℕ} → Same G [] x y → x ≡ y
+  none-same : {x y : ℕ} → Same G [] x y → x ≡ y
   none-same =
       same-labels {G = G} (λ (x : ℕ). x) (λ p m. absurd (List·Memᴰ·not-nil m))
       (λ x y s xs ys e ex ey i hx hy.
       let heads : G .head x ≡ G .head y = ap (G .head) e in
       let children : xs ≡ ys = cc in
       ap (λ (zs : List ℕ). getD zs i 0) children)
-
-  pub none-clash : Clash G [] → ⊥
-  none-clash c =
-      let heads : G .head (c .left) ≡ G .head (c .right) = ap (G .head) (none-same (c .together)) in
-      let left : G .head (c .left) ≡ symbol (c .left-symbol) (c .left-children) = c .left-head in
-      let right : G .head (c .right) ≡ symbol (c .right-symbol) (c .right-children) = c .right-head in
-      c .different (cc)
-
-  step-child : (x y : ℕ) → ClassStep G [] x y → Child G x y
-  step-child x y s = subst (λ (v : ℕ). Child G v y) (sym (none-same (s .from))) (subst (Child G (s .member)) (none-same (s .into)) (s .down))
-
-  -- with no pairs a cycle is a loop
-  pub none-cycle : WellFormed G → Cycle G [] → ⊥
-  none-cycle wf c = wf .no-loop (c .0) (steps-map step-child (c .1))
 
   pub apart-class-table : WellFormed G → ClassTable G [] (apart G)
   apart-class-table wf =

@@ -7,12 +7,12 @@
 use mathlib.Core.Path.{_≡_}
 use mathlib.Core.Logic.{_⊎_, _↔_}
 use mathlib.Core.Bool.{true}
-use mathlib.Core.List.{List}
+use mathlib.Core.List.{List, [], List·Memᴰ·not-nil}
 use Prim.Native.Nat.{ℕ, _≤_, _<_}
 use lib.ListN.{take}
 use Rattle.graphs.specs.Graph.{Symbols, variable, Graph, Node, Child, Steps, WellFormed}
 use Rattle.graphs.specs.Partition.{Pair, _∈_, Sides, Same, Closed, Clash, ClassStep, Cycle, entry, ClassTable}
-use Rattle.graphs.specs.Term.{Replacement, _then_, grown, below, Unifies, FollowsRule, answer}
+use Rattle.graphs.specs.Term.{var, Replacement, _then_, grown, below, Unifies, FollowsRule, answer}
 use Rattle.graphs.specs.Log.{Join, ends, replay, closed, ranked, clashes, Down, cycles, loops}
 use Rattle.graphs.proofs.Finite as finite
 use Rattle.graphs.proofs.Classes as classes
@@ -53,6 +53,13 @@ unifier-no-clash = unifiers.unifier-no-clash
 
 pub unifier-no-cycle : {S : Symbols} {G : Graph S} {pairs : List Pair} → WellFormed G → (θ : Replacement S) → Unifies G pairs θ → Cycle G pairs → ⊥
 unifier-no-cycle = unifiers.unifier-no-cycle
+
+-- With no pairs there is neither: every replacement will do.
+pub no-pairs-no-clash : {S : Symbols} {G : Graph S} → WellFormed G → Clash G [] → ⊥
+no-pairs-no-clash wf = unifier-no-clash wf var (λ p m. absurd (List·Memᴰ·not-nil m))
+
+pub no-pairs-no-cycle : {S : Symbols} {G : Graph S} → WellFormed G → Cycle G [] → ⊥
+no-pairs-no-cycle wf = unifier-no-cycle wf var (λ p m. absurd (List·Memᴰ·not-nil m))
 
 -- The term below a node, without its depth.
 pub below-unfolds : {S : Symbols} {G : Graph S} → WellFormed G → (x : ℕ) → Node G x → below G x ≡ grown (below G) x (G .head x)

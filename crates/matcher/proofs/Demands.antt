@@ -7,7 +7,7 @@
 -- Assumes nothing.
 use mathlib.Core.Path.{_≡_, refl, sym, ap, _∙_, subst}
 use mathlib.Core.Logic.{_⊎_, inl, inr, ⊎-elim, _↔_}
-use mathlib.Core.List.{List, [], List·Memᴰ, List·Memᴰ·head, List·Memᴰ·tail, List·Memᴰ·not-nil}
+use mathlib.Core.List.{List, List·Memᴰ, List·Memᴰ·head, List·Memᴰ·tail}
 use Prim.Native.Nat.{ℕ, zero, suc, _+_, _-_, _≤_, _<_}
 use native.Mathlib.Decide.{ℕ-discrete, decLt}
 use native.Mathlib.Omega.{arith}
@@ -15,8 +15,8 @@ use lib.ListN.{length, take, drop}
 use lib.Seq.{take-at, take-all}
 use Rattle.graphs.specs.Graph.{Symbols, Graph, variable, WellFormed}
 use Rattle.graphs.specs.Partition.{Pair, _∈_, Sides, Clash, Cycle, ClassTable, joins}
-use Rattle.graphs.specs.Term.{var, Replacement, _then_, Unifies, FollowsRule, answer}
-use Rattle.graphs.proofs.Theorems.{unifier-no-clash, unifier-no-cycle, answer-unifies, answer-most-general, answer-follows-rule, first-pairs-grow, class-table-or-clash}
+use Rattle.graphs.specs.Term.{Replacement, _then_, Unifies, FollowsRule, answer}
+use Rattle.graphs.proofs.Theorems.{unifier-no-clash, unifier-no-cycle, no-pairs-no-clash, no-pairs-no-cycle, answer-unifies, answer-most-general, answer-follows-rule, first-pairs-grow, class-table-or-clash}
 use Rattle.table.specs.Table.{TableSymbols, graphOf}
 use Rattle.table.specs.Answers.{Answered}
 use Rattle.table.specs.Faults.{Job, pairsOf, Row, SIZE, ROOM, WORD, LAYOUT, POINTER, NAME, LOOP, LIST, ADDRESS, CLASH, CYCLE, number, Fault, size-fault, room-fault, word-fault, layout-fault, pointer-fault, name-fault, loop-fault, list-fault, address-fault, clash-fault, cycle-fault, matchOrder}
@@ -40,9 +40,6 @@ module _ {S : Symbols} (G : Graph S) where
   faultless-met : {pairs : List Pair} → WellFormed G → Sides G pairs → (Clash G pairs → ⊥) → (Cycle G pairs → ⊥) → Met G pairs
   faultless-met {pairs} wf sides no-clash no-cycle =
       ⊎-elim (λ c. (answer G (c .0), answer-unifies wf sides (c .1) no-clash no-cycle)) (λ c. absurd (no-clash c)) (class-table-or-clash wf sides)
-
-  none-met : WellFormed G → (Clash G [] → ⊥) × (Cycle G [] → ⊥)
-  none-met wf = (unifier-no-clash wf var (λ p m. absurd (List·Memᴰ·not-nil m)), unifier-no-cycle wf var (λ p m. absurd (List·Memᴰ·not-nil m)))
 
   first-unmet-only : {pairs : List Pair} {j k : ℕ} → FirstUnmet G pairs j → FirstUnmet G pairs k → j ≡ k
   first-unmet-only {pairs} {j} {k} f g = go (decLt j k) (decLt k j)
@@ -127,7 +124,7 @@ module _ {t list class work : List ℕ} {r : Matched} {class-after work-after : 
 
   -- If the answer is 0, no part of the list has a clash or a cycle.
   faultless-so-far : numberOf r ≡ 0 → (k : ℕ) → k ≤ length (pairsOf list) → (Clash (graphOf t) (take k (pairsOf list)) → ⊥) × (Cycle (graphOf t) (take k (pairsOf list)) → ⊥)
-  faultless-so-far z zero h = none-met (graphOf t) (has .well-formed)
+  faultless-so-far z zero h = (no-pairs-no-clash (has .well-formed), no-pairs-no-cycle (has .well-formed))
   faultless-so-far z (suc k) h =
       subst (λ (n : ℕ). (Clash (graphOf t) (take n (pairsOf list)) → ⊥) × (Cycle (graphOf t) (take n (pairsOf list)) → ⊥)) (let e : k + 1 ≡ suc k = omega arith in e)
       (one-more (faultless-so-far z k (omega arith)))

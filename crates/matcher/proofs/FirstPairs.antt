@@ -13,6 +13,7 @@ use Rattle.rows.proofs.Laws.{behind-stays, behind-cleared}
 use Rattle.graphs.specs.Graph.{Symbols, Graph}
 use Rattle.graphs.specs.Partition.{Pair, Sides, Clash, ClassTable}
 use Rattle.graphs.specs.Log.{apart}
+use Rattle.graphs.proofs.Theorems.{no-pairs-no-clash}
 use Rattle.graphs.proofs.Classes.{never, clash-grows, first-pairs-grow}
 use Rattle.table.specs.Table.{graphOf}
 use Rattle.table.specs.Faults.{pairsOf}
@@ -20,7 +21,7 @@ use Rattle.table.proofs.Pairs.{pairsOf-take}
 use Rattle.checker.specs.Check.{zeroed}
 use Rattle.classes.specs.declared.joining.Joined.{Joined}
 use Rattle.classes.specs.Joining.{Joinable, ByOutcome, JoinOf}
-use Rattle.classes.proofs.OwnClasses.{apart-front, apart-long, none-clash}
+use Rattle.classes.proofs.OwnClasses.{apart-front, apart-long}
 use Rattle.classes.proofs.OneByOne.{first-in-whole}
 use Rattle.matcher.specs.FirstFailure.{Standing, Lent, Partitioned, FirstJoined, all-joined, clash-at, JoinsFirst, UntilClash}
 
@@ -73,7 +74,7 @@ module _ {t list class work class-apart : List ℕ} {k : ℕ} (s : Standing t li
         work-enough = omega (arith, s .ready .work-enough);
         earlier-sides = λ p m. absurd (List·Memᴰ·not-nil m);
         class-table = apart-front t class-apart (drop (length t) class) (s .ready .well-formed) apart-row;
-        no-clash = none-clash (graphOf t);
+        no-clash = no-pairs-no-clash (s .ready .well-formed);
         sides = subst (Sides (graphOf t)) (sym (pairsOf-take list k)) (first-sides (s .ready .sides) k inside);
         numbered = omega (arith, s .ready .few, first-no-longer (2 * k) list);
       }

@@ -12,6 +12,7 @@ use lib.ListN.{length, take, drop, replicate, take-append-drop}
 use lib.Seq.{take-all, getD-take}
 use Rattle.words.specs.declared.numbers.PairNumber.{PairNumber}
 use Rattle.graphs.specs.Partition.{Pair, Clash, Cycle, ClassTable, isNode, nodes, classes, joins}
+use Rattle.graphs.proofs.Theorems.{no-pairs-no-cycle}
 use Rattle.graphs.proofs.Classes.{clash-grows, first-pairs-grow}
 use Rattle.table.specs.Table.{graphOf}
 use Rattle.table.specs.Answers.{Answered}
@@ -20,7 +21,6 @@ use Rattle.checker.specs.Check.{zeroed}
 use Rattle.cycles.specs.Net.{Searchable, Searched}
 use Rattle.classes.specs.declared.joining.Joined.{Joined}
 use Rattle.classes.proofs.Counts.{count-same, ownNode}
-use Rattle.classes.proofs.OwnClasses.{none-cycle}
 use Rattle.matcher.specs.declared.answer.Matched.{Matched}
 use Rattle.matcher.specs.Match.{jobOf, Passes}
 use Rattle.matcher.specs.Stages.{Cycles}
@@ -68,9 +68,9 @@ pub record Halved (t list class₀ work₀ : List ℕ) (all : ℕ) (class work :
   pub cycle : Cycle (graphOf t) (take many (pairsOf list))
 
 pub halved-start : {t list class work : List ℕ} (many : ℕ) → Standing t list class work → Cycle (graphOf t) (take many (pairsOf list)) → Halved t list class work many class work 0 many
-halved-start {t} {list} zero s c = absurd (none-cycle (graphOf t) (s .ready .well-formed) c)
+halved-start {t} {list} zero s c = absurd (no-pairs-no-cycle (s .ready .well-formed) c)
 halved-start {t} {list} (suc many) s c =
-    record { lent = lent-none; apart = omega arith; within = omega arith; none-yet = none-cycle (graphOf t) (s .ready .well-formed); cycle = c }
+    record { lent = lent-none; apart = omega arith; within = omega arith; none-yet = no-pairs-no-cycle (s .ready .well-formed); cycle = c }
 
 module _ {t list class₀ work₀ class work class-after work-after : List ℕ} {all few many middle : ℕ} {found : Bool} (h : Halved t list class₀ work₀ all class work few many)
     (tells : TellsCycle t list class work middle found class-after work-after) (below : few < middle) (above : middle < many) where
