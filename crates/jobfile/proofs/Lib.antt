@@ -1,2 +1,4 @@
 pub mod NumberLaws
 pub mod FileLaws
+pub mod WriterLaws
+pub mod WriteAnswers
