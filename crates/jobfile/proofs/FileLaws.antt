@@ -1,7 +1,7 @@
 -- Laws of the job file's definitions.
 --
 -- In order:
---     sizes                  length-sizesFrom, size-there, words-there, pairs-there, sizes-end
+--     sizes                  length-sizesFrom, size-there, size-in, words-there, pairs-there, sizes-end
 --     lengths                length-contentsOf, length-fileOf
 --     written, then read     ReadBack, read-back: entries that were written are read again
 --     read, then written     contents-again
@@ -14,7 +14,7 @@ use mathlib.Core.List.{List, [], _∷_, _++_, append-assoc}
 use lib.ListN.{length, take, drop, getD, length-append}
 use Rattle.rows.specs.LittleEndian.{bytesOf, numberAt, AllBytes}
 use Rattle.rows.proofs.Laws.{length-bytesOf}
-use Rattle.jobfile.specs.File.{bodySize, contentsEnd, countIn, offsetIn, wordsIn, pairsIn, bodyStart, sizesFrom, jobCount, bodiesSize, contentsOf, fileOf}
+use Rattle.jobfile.specs.File.{bodySize, contentsEnd, countIn, offsetIn, wordsIn, pairsIn, bodyStart, sizesFrom, sizesIn, jobCount, bodiesSize, contentsOf, fileOf}
 use Rattle.jobfile.proofs.NumberLaws.{number-there, rest-there, bytes-there}
 
 -- ---- sizes
@@ -37,6 +37,11 @@ size-there (suc m) k (suc zero) bytes h =
 size-there (suc m) k (suc (suc i)) bytes h =
     let way : 2 + 6 * (suc k + i / 2) + 2 + 2 * (i % 2) ≡ 2 + 6 * (k + suc (suc i) / 2) + 2 + 2 * (suc (suc i) % 2) = omega arith in
     size-there m (suc k) i bytes (omega arith) ∙ ap (λ (at : ℕ). numberAt 2 at bytes) way
+
+pub size-in : (bytes : List ℕ) (i : ℕ) → i < 2 * countIn bytes → numberAt 2 (2 + 6 * (i / 2) + 2 + 2 * (i % 2)) bytes ≡ getD (sizesIn bytes) i 0
+size-in bytes i h =
+    let way : 2 + 6 * (i / 2) + 2 + 2 * (i % 2) ≡ 2 + 6 * (0 + i / 2) + 2 + 2 * (i % 2) = omega arith in
+    ap (λ (at : ℕ). numberAt 2 at bytes) way ∙ sym (size-there (countIn bytes) 0 i bytes h)
 
 pub words-there : (m k j : ℕ) (bytes : List ℕ) → j < m → getD (sizesFrom m k bytes) (2 * j) 0 ≡ wordsIn bytes (k + j)
 words-there m k j bytes h =

@@ -2,3 +2,5 @@ pub mod NumberLaws
 pub mod FileLaws
 pub mod WriterLaws
 pub mod WriteAnswers
+pub mod ReaderLaws
+pub mod Yields

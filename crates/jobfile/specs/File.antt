@@ -3,7 +3,7 @@
 use mathlib.Core.Path.{_≡_}
 use mathlib.Core.List.{List, [], _∷_, _++_}
 use Prim.Native.Nat.{ℕ, zero, suc, _+_, _*_, _/_, _≤_, _<_}
-use lib.ListN.{length, drop}
+use lib.ListN.{length, take, drop}
 use Rattle.rows.specs.LittleEndian.{bytesOf, numberAt}
 
 -- "A body is n words and p pairs, 4 bytes each."
@@ -35,6 +35,10 @@ pairsIn bytes k = numberAt 2 (2 + 6 * k + 4) bytes
 unfoldable pub bodyStart : List ℕ → ℕ → ℕ
 bodyStart bytes zero = contentsEnd (countIn bytes)
 bodyStart bytes (suc k) = bodyStart bytes k + bodySize (wordsIn bytes k) (pairsIn bytes k)
+
+-- the body of entry k
+abbrev pub bodyIn : List ℕ → ℕ → List ℕ
+bodyIn bytes k = take (bodySize (wordsIn bytes k) (pairsIn bytes k)) (drop (bodyStart bytes k) bytes)
 
 -- the sizes of m entries from entry k on: n, p, n, p, ..
 unfoldable pub sizesFrom : ℕ → ℕ → List ℕ → List ℕ
