@@ -4,3 +4,4 @@ pub mod WriterLaws
 pub mod WriteAnswers
 pub mod ReaderLaws
 pub mod Yields
+pub mod TakenLaws
