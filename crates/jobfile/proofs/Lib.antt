@@ -5,3 +5,6 @@ pub mod WriteAnswers
 pub mod ReaderLaws
 pub mod Yields
 pub mod TakenLaws
+pub mod Written
+pub mod JobLaws
+pub mod Theorems

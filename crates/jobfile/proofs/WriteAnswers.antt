@@ -1,17 +1,19 @@
 -- The writer's answers, from its tests. In order: a row of sizes that is not refused (`Allowed`); each refusal
--- (`write-contents`, `write-body`, `write-file`, `write-room`); the file (`write-all`); one answer (`write-once`,
--- `write-only`). Assumes nothing.
+-- (`write-contents`, `write-body`, `write-file`, `write-room`); the file (`write-all`); what is not refused
+-- (`written-writable`); one answer (`write-once`, `write-only`, `writable-written`). Assumes nothing.
 use mathlib.Core.Path.{_≡_, refl, sym, ap, ap₂, _∙_}
 use mathlib.Core.Bool.{cond}
 use mathlib.Core.Logic.{_⊎_, inl, inr}
 use mathlib.Core.List.{List, _++_}
 use Prim.Native.Nat.{ℕ, _+_, _*_, _%_, _≤_, _<_}
+use native.Mathlib.Decide.{decLe, ℕ-discrete}
 use native.Mathlib.Omega.{arith}
 use lib.Dec.{eqb}
 use lib.ListN.{length, take, drop, length-append}
 use lib.Seq.{take-at}
 use Rattle.rows.specs.Placed.{placed}
 use Rattle.rows.proofs.Laws.{behind-stays}
+use Rattle.table.specs.Answers.{Answered}
 use Rattle.table.proofs.OneAnswer.{answered-only}
 use Rattle.jobfile.specs.File.{contentsEnd, jobCount, bodiesSize, fileOf}
 use Rattle.jobfile.specs.Faults.{Row, CONTENTS, BODY, FILE, ROOM, number, WriteFault, contents-refused, body-refused, file-refused, room-refused, writeOrder}
@@ -20,6 +22,7 @@ use Rattle.jobfile.specs.declared.answers.WriteAnswer.{WriteAnswer}
 use Rattle.jobfile.specs.declared.answers.WriteAnswer.the-variants.{Written, Contents, Body, File, Room}
 use Rattle.jobfile.proofs.FileLaws.{length-fileOf}
 use Rattle.jobfile.proofs.WriterLaws.{length-frontOf}
+use Rattle.jobfile.proofs.Written.{Writable}
 
 -- sizes that 13 does not refuse
 pub record Allowed (sizes : List ℕ) : Type 0 where
@@ -90,6 +93,38 @@ module _ (sizes bodies room : List ℕ) where
                   ∙ ap (λ (i : ℕ). frontOf sizes ++ bodies ++ drop i room) (sym file-size);
             }
 
+-- ---- what is not refused
+
+-- what the writer writes, no row refuses
+pub written-writable : {sizes bodies room after : List ℕ} → WriteOf sizes bodies room Written after → Writable sizes bodies
+unfolding number
+written-writable {sizes} {bodies} {room} w = go (w .answered)
+  where
+    put : Allowed sizes → Dec (length bodies ≡ bodiesSize sizes) → Dec (length (fileOf sizes bodies) ≤ 32768)
+        → ((p : ℕ) → WriteFault sizes bodies room BODY p → ⊥) → ((p : ℕ) → WriteFault sizes bodies room FILE p → ⊥) → Writable sizes bodies
+    put ok (yes e) (yes h) b f = record { even = ok .even; some-job = ok .some-job; few-jobs = ok .few-jobs; sum = e; short = h }
+    put ok (yes e) (no h) b f = absurd (f 0 (file-refused (omega arith)))
+    put ok (no other) d b f = absurd (b 0 (body-refused other))
+
+    allowed : Dec (length sizes % 2 ≡ 1) → Dec (1 ≤ jobCount sizes) → Dec (jobCount sizes ≤ 64) → ((p : ℕ) → WriteFault sizes bodies room CONTENTS p → ⊥) → Allowed sizes
+    allowed (no even) (yes l) (yes m) c = record { even = omega arith; some-job = l; few-jobs = m }
+    allowed (no even) (yes l) (no m) c = absurd (c 0 (contents-refused (inr (inr (omega arith)))))
+    allowed (no even) (no l) d c = absurd (c 0 (contents-refused (inr (inl (omega arith)))))
+    allowed (yes odd) d e c = absurd (c 0 (contents-refused (inl odd)))
+
+    go : Answered number (WriteFault sizes bodies room) writeOrder 0 0 → Writable sizes bodies
+    go (inl (e, x)) = absurd (omega arith)
+    go (inr (c, inl (e, x))) = absurd (omega arith)
+    go (inr (c, inr (b, inl (e, x)))) = absurd (omega arith)
+    go (inr (c, inr (b, inr (f, inl (e, x))))) = absurd (omega arith)
+    go (inr (c, inr (b, inr (f, inr (r, rest))))) =
+        put
+        (allowed (ℕ-discrete (length sizes % 2) 1) (decLe 1 (jobCount sizes)) (decLe (jobCount sizes) 64) c)
+        (ℕ-discrete (length bodies) (bodiesSize sizes))
+        (decLe (length (fileOf sizes bodies)) 32768)
+        b
+        f
+
 -- ---- one answer
 
 pub write-once : {sizes bodies room : List ℕ} (row : Row) (p q : ℕ) → WriteFault sizes bodies room row p → WriteFault sizes bodies room row q → p ≡ q
@@ -123,3 +158,13 @@ write-only {sizes} {bodies} {room} {r} {s} a b =
         answered-only number (WriteFault sizes bodies room) write-once writeOrder (numberOf r) (placeOf r) (numberOf s) (placeOf s) (a .answered) (b .answered) in
     let e : r ≡ s = sym (answer-by-number r) ∙ ap answerWith (same .0) ∙ answer-by-number s in
     (e, a .room-left ∙ ap (λ (q : WriteAnswer). left q (fileOf sizes bodies) room) e ∙ sym (b .room-left))
+
+-- What no row refuses, the writer writes, where there is room.
+pub writable-written : {sizes bodies room : List ℕ} {r : WriteAnswer} {after : List ℕ} → Writable sizes bodies → length (fileOf sizes bodies) ≤ length room
+    → WriteOf sizes bodies room r after → (r ≡ Written) × (after ≡ fileOf sizes bodies ++ drop (length (fileOf sizes bodies)) room)
+unfolding left
+writable-written {sizes} {bodies} {room} {r} w enough given =
+    let ok : Allowed sizes = record { even = w .even; some-job = w .some-job; few-jobs = w .few-jobs } in
+    let size : length (fileOf sizes bodies) ≡ contentsEnd (jobCount sizes) + length bodies = length-fileOf sizes bodies (w .even) in
+    let e : r ≡ Written = write-only given (write-all sizes bodies room ok (w .sum) (omega (arith, w .short)) (omega arith) refl refl) .0 in
+    (e, given .room-left ∙ ap (λ (q : WriteAnswer). left q (fileOf sizes bodies) room) e)
