@@ -6,12 +6,12 @@
 --     written, then read     ReadBack, read-back: entries that were written are read again
 --     read, then written     contents-again
 -- Assumes nothing.
-use mathlib.Core.Path.{_≡_, refl, sym, ap, ap₂, _∙_}
-use Prim.Native.Nat.{ℕ, zero, suc, _+_, _*_, _/_, _%_, _^_, _≤_, _<_}
+use mathlib.Core.Path.{_≡_, refl, sym, ap, _∙_}
+use Prim.Native.Nat.{ℕ, zero, suc, _+_, _*_, _/_, _%_, _≤_, _<_}
 use native.Mathlib.Decide.{decLt}
 use native.Mathlib.Omega.{arith}
 use mathlib.Core.List.{List, [], _∷_, _++_, append-assoc}
-use lib.ListN.{length, take, drop, getD, length-append}
+use lib.ListN.{length, drop, getD, length-append}
 use Rattle.rows.specs.LittleEndian.{bytesOf, numberAt, AllBytes}
 use Rattle.rows.proofs.Laws.{length-bytesOf}
 use Rattle.jobfile.specs.File.{bodySize, contentsEnd, countIn, offsetIn, wordsIn, pairsIn, bodyStart, sizesFrom, sizesIn, jobCount, bodiesSize, contentsOf, fileOf}
@@ -132,7 +132,7 @@ module _ (bytes rest : List ℕ) where
       let entry : EntryBack k start n p sizes = entry-back k start n p sizes here (omega arith) (omega arith) (omega arith) in
       let starts : start + bodySize n p ≡ bodyStart bytes (suc k) = next-start bytes k begins (entry .words) (entry .pairs) in
       let later : ReadBack bytes m (suc k) (start + bodySize n p) sizes rest =
-          read-back m (suc k) (start + bodySize n p) sizes (omega arith) (omega arith) starts (entry .next) in
+      read-back m (suc k) (start + bodySize n p) sizes (omega arith) (omega arith) starts (entry .next) in
       let way : 2 + 6 * (k + suc m) ≡ 2 + 6 * (suc k + m) = omega arith in
       record {
         same-sizes = rw (entry .words, entry .pairs, later .same-sizes);
@@ -156,16 +156,16 @@ contents-again zero k bytes all inside right = let way : 2 + 6 * (k + 0) ≡ 2 +
 contents-again (suc m) k bytes all inside right =
     let at : ℕ = 2 + 6 * k in
     let offset : bytesOf 2 (bodyStart bytes k) ++ drop (at + 2) bytes ≡ drop at bytes =
-        ap (λ (x : ℕ). bytesOf 2 x ++ drop (at + 2) bytes) (sym (right k (omega arith) (omega arith))) ∙ bytes-there 2 at bytes all (omega arith) in
+    ap (λ (x : ℕ). bytesOf 2 x ++ drop (at + 2) bytes) (sym (right k (omega arith) (omega arith))) ∙ bytes-there 2 at bytes all (omega arith) in
     let two : at + 2 + 2 ≡ at + 4 = omega arith in
     let words : bytesOf 2 (wordsIn bytes k) ++ drop (at + 4) bytes ≡ drop (at + 2) bytes =
-        ap (λ (i : ℕ). bytesOf 2 (wordsIn bytes k) ++ drop i bytes) (sym two) ∙ bytes-there 2 (at + 2) bytes all (omega arith) in
+    ap (λ (i : ℕ). bytesOf 2 (wordsIn bytes k) ++ drop i bytes) (sym two) ∙ bytes-there 2 (at + 2) bytes all (omega arith) in
     let end : at + 4 + 2 ≡ 2 + 6 * suc k = omega arith in
     let pairs : bytesOf 2 (pairsIn bytes k) ++ drop (2 + 6 * suc k) bytes ≡ drop (at + 4) bytes =
-        ap (λ (i : ℕ). bytesOf 2 (pairsIn bytes k) ++ drop i bytes) (sym end) ∙ bytes-there 2 (at + 4) bytes all (omega arith) in
+    ap (λ (i : ℕ). bytesOf 2 (pairsIn bytes k) ++ drop i bytes) (sym end) ∙ bytes-there 2 (at + 4) bytes all (omega arith) in
     let way : 2 + 6 * (k + suc m) ≡ 2 + 6 * (suc k + m) = omega arith in
     let later : contentsOf (bodyStart bytes (suc k)) (sizesFrom m (suc k) bytes) ++ drop (2 + 6 * (k + suc m)) bytes ≡ drop (2 + 6 * suc k) bytes =
-        ap (λ (i : ℕ). contentsOf (bodyStart bytes (suc k)) (sizesFrom m (suc k) bytes) ++ drop i bytes) way
-        ∙ contents-again m (suc k) bytes all (omega arith) (λ j l h. right j (omega arith) (omega arith)) in
+    ap (λ (i : ℕ). contentsOf (bodyStart bytes (suc k)) (sizesFrom m (suc k) bytes) ++ drop i bytes) way
+    ∙ contents-again m (suc k) bytes all (omega arith) (λ j l h. right j (omega arith) (omega arith)) in
     let start : bodyStart bytes k + bodySize (wordsIn bytes k) (pairsIn bytes k) ≡ bodyStart bytes (suc k) = next-start bytes k refl refl refl in
     simp append-assoc (rw (start, later, pairs, words) offset)

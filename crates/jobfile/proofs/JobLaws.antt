@@ -16,7 +16,7 @@ use Rattle.graphs.specs.Partition.{Pair}
 use Rattle.table.specs.Faults.{pairsOf}
 use Rattle.rows.specs.LittleEndian.{number}
 use Rattle.jobfile.specs.Numbers.{bytesOfRow, rowIn, AllBelow}
-use Rattle.jobfile.specs.File.{bodySize, wordsIn, pairsIn, bodyStart, bodyIn, sizesFrom, bodiesSize}
+use Rattle.jobfile.specs.File.{bodySize, wordsIn, pairsIn, bodyStart, sizesFrom, bodiesSize}
 use Rattle.jobfile.specs.Jobs.{FileJob, entriesOf, sizesOf, bodyOf, bodiesOf, AllFit, jobIn, jobsFrom}
 use Rattle.jobfile.proofs.NumberLaws.{length-bytesOfRow, row-read-back}
 use Rattle.jobfile.proofs.FileLaws.{next-start}
@@ -70,13 +70,13 @@ job-back job rest words-fit pairs-fit =
     let front : List ℕ = bytesOfRow 4 (job .words) in
     let back : List ℕ = bytesOfRow 2 (entriesOf (job .pairs)) in
     let words : rowIn 4 (length (job .words)) (bodyOf job ++ rest) ≡ job .words =
-        ap (rowIn 4 (length (job .words))) (append-assoc front back rest) ∙ row-read-back 4 (job .words) (back ++ rest) words-fit in
+    ap (rowIn 4 (length (job .words))) (append-assoc front back rest) ∙ row-read-back 4 (job .words) (back ++ rest) words-fit in
     let behind : drop (4 * length (job .words)) (bodyOf job ++ rest) ≡ back ++ rest =
-        ap (drop (4 * length (job .words))) (append-assoc front back rest) ∙ drop-at front (back ++ rest) (4 * length (job .words)) (length-bytesOfRow 4 (job .words)) in
+    ap (drop (4 * length (job .words))) (append-assoc front back rest) ∙ drop-at front (back ++ rest) (4 * length (job .words)) (length-bytesOfRow 4 (job .words)) in
     let entries : rowIn 2 (2 * length (job .pairs)) (drop (4 * length (job .words)) (bodyOf job ++ rest)) ≡ entriesOf (job .pairs) =
-        ap₂ (λ (m : ℕ) (l : List ℕ). rowIn 2 m l) (sym (length-entriesOf (job .pairs))) behind ∙ row-read-back 2 (entriesOf (job .pairs)) rest pairs-fit in
+    ap₂ (λ (m : ℕ) (l : List ℕ). rowIn 2 m l) (sym (length-entriesOf (job .pairs))) behind ∙ row-read-back 2 (entriesOf (job .pairs)) rest pairs-fit in
     let pairs : pairsOf (rowIn 2 (2 * length (job .pairs)) (drop (4 * length (job .words)) (bodyOf job ++ rest))) ≡ job .pairs =
-        ap pairsOf entries ∙ pairs-entries (job .pairs) in
+    ap pairsOf entries ∙ pairs-entries (job .pairs) in
     λ i. record { words = words i; pairs = pairs i }
 
 pub jobs-back : (jobs : List FileJob) → AllFit jobs → jobsFrom (sizesOf jobs) (bodiesOf jobs) ≡ jobs
@@ -125,7 +125,7 @@ job-there (suc m) k zero bytes d h =
     let way : k ≡ k + 0 = omega arith in ap (λ (i : ℕ). jobIn (wordsIn bytes i) (pairsIn bytes i) (drop (bodyStart bytes i) bytes)) way
 job-there (suc m) k (suc j) bytes d h =
     let next : drop (bodySize (wordsIn bytes k) (pairsIn bytes k)) (drop (bodyStart bytes k) bytes) ≡ drop (bodyStart bytes (suc k)) bytes =
-        drop-drop (bodySize (wordsIn bytes k) (pairsIn bytes k)) (bodyStart bytes k) bytes ∙ ap (λ (i : ℕ). drop i bytes) (next-start bytes k refl refl refl) in
+    drop-drop (bodySize (wordsIn bytes k) (pairsIn bytes k)) (bodyStart bytes k) bytes ∙ ap (λ (i : ℕ). drop i bytes) (next-start bytes k refl refl refl) in
     let way : suc k + j ≡ k + suc j = omega arith in
     ap (λ (l : List ℕ). getD (jobsFrom (sizesFrom m (suc k) bytes) l) j d) next
     ∙ job-there m (suc k) j bytes d (omega arith)

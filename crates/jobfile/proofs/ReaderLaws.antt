@@ -19,7 +19,7 @@ use lib.Dec.{eqb}
 use lib.ListN.{length}
 use borrow.Author.Count.{below-more}
 use Rattle.graphs.proofs.Classes.{never}
-use Rattle.table.specs.Answers.{Lowest, Answered}
+use Rattle.table.specs.Answers.{Lowest}
 use Rattle.table.proofs.OneAnswer.{answered-only, lowest-only}
 use Rattle.jobfile.specs.File.{bodySize, contentsEnd, countIn, offsetIn, wordsIn, pairsIn, bodyStart, GoodFile}
 use Rattle.jobfile.specs.Faults.{Row, FILE, CONTENTS, BODY, number, BodyFault, wrong-offset, past-end, bytes-follow, ReadFault, file-fault, contents-fault, body-fault, readOrder}
@@ -151,7 +151,7 @@ answer-by-numbers (Body entry) = refl
 pub judged-only : {bytes : List ℕ} (r s : FileAnswer) → Judged bytes r → Judged bytes s → r ≡ s
 judged-only {bytes} r s a b =
     let same : (numberOf r ≡ numberOf s) × (placeOf r ≡ placeOf s) =
-        answered-only number (ReadFault bytes) read-once readOrder (numberOf r) (placeOf r) (numberOf s) (placeOf s) a b in
+    answered-only number (ReadFault bytes) read-once readOrder (numberOf r) (placeOf r) (numberOf s) (placeOf s) a b in
     sym (answer-by-numbers r) ∙ ap₂ answerWith (same .0) (same .1) ∙ answer-by-numbers s
 
 holds-only : {xs ys : List ℕ} {a b : Sizes} → xs ≡ ys → Holds a xs → Holds b ys → a ≡ b

@@ -12,15 +12,14 @@
 use mathlib.Core.Path.{_≡_, refl, sym, ap, ap₂, _∙_, subst}
 use mathlib.Core.Bool.{Bool, cond}
 use mathlib.Core.List.{List, [], _++_}
-use Prim.Native.Nat.{ℕ, suc, _+_, _-_, _*_, _/_, _≤_, _<_}
+use Prim.Native.Nat.{ℕ, suc, _+_, _-_, _*_, _≤_, _<_}
 use native.Mathlib.Omega.{arith}
-use lib.ListN.{length, take, drop, getD, replicate, length-take, length-drop}
+use lib.ListN.{length, take, drop, getD, replicate, length-drop}
 use lib.Seq.{take-at, length-take-le}
 use borrow.Author.Tests.{lt-ltb}
 use Rattle.rows.specs.LittleEndian.{AllBytes}
-use Rattle.table.specs.Faults.{pairsOf}
 use Rattle.jobfile.specs.Numbers.{rowIn}
-use Rattle.jobfile.specs.File.{bodySize, countIn, wordsIn, pairsIn, bodyStart, bodyIn, sizesIn, bodiesIn, GoodFile, jobCount, fileOf}
+use Rattle.jobfile.specs.File.{bodySize, countIn, wordsIn, pairsIn, bodyStart, bodyIn, sizesIn, bodiesIn, GoodFile, fileOf}
 use Rattle.jobfile.specs.Jobs.{FileJob, entriesOf, sizesOf, bodiesOf, fileOfJobs, Holdable, jobIn, jobsFrom, jobsIn}
 use Rattle.jobfile.specs.Reader.{Judged, yieldedSizes, yieldedBodies, numberedBody, yieldedBody, inRow, Holds, ReadOf, BodiesOf, BodyOf}
 use Rattle.jobfile.specs.Writer.{WriteOf, left}
@@ -84,10 +83,10 @@ pub good-read-written-again : {bytes part room after : List ℕ} {answer : FileA
 good-read-written-again {bytes} {part} {room} {after} {sizes = sizes} {written} all good r b enough w =
     let same : fileOf (sizesIn bytes) (bodiesIn bytes) ≡ bytes = good-again good all in
     let w′ : WriteOf (sizesIn bytes) (bodiesIn bytes) room written after =
-        subst (λ (l : List ℕ). WriteOf l (bodiesIn bytes) room written after) (good-sizes good r)
-        (subst (λ (l : List ℕ). WriteOf (take (sizes .count) (sizes .row)) l room written after) (good-bodies good b) w) in
+    subst (λ (l : List ℕ). WriteOf l (bodiesIn bytes) room written after) (good-sizes good r)
+    (subst (λ (l : List ℕ). WriteOf (take (sizes .count) (sizes .row)) l room written after) (good-bodies good b) w) in
     let done : (written ≡ Written) × (after ≡ fileOf (sizesIn bytes) (bodiesIn bytes) ++ drop (length (fileOf (sizesIn bytes) (bodiesIn bytes))) room) =
-        writable-written (good-writable good all) (omega (arith, ap length same)) w′ in
+    writable-written (good-writable good all) (omega (arith, ap length same)) w′ in
     (done .0, done .1 ∙ ap (λ (l : List ℕ). l ++ drop (length l) room) same)
 
 -- ---- jobs written and read back
@@ -121,7 +120,7 @@ module _ {bytes part : List ℕ} (good : GoodFile bytes) (k : ℕ) (there : k < 
   body-size : length part ≡ bodySize (wordsIn bytes k) (pairsIn bytes k)
   body-size =
       let inside : bodySize (wordsIn bytes k) (pairsIn bytes k) ≤ length (drop (bodyStart bytes k) bytes) =
-          simp length-drop (omega (arith, next-start bytes k refl refl refl, body-inside good k there)) in
+      simp length-drop (omega (arith, next-start bytes k refl refl refl, body-inside good k there)) in
       ap length (good-body good there b) ∙ length-take-le (bodySize (wordsIn bytes k) (pairsIn bytes k)) (drop (bodyStart bytes k) bytes) inside
 
   -- job k of the file, by its own body

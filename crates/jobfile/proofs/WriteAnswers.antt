@@ -5,11 +5,11 @@ use mathlib.Core.Path.{_≡_, refl, sym, ap, ap₂, _∙_}
 use mathlib.Core.Bool.{cond}
 use mathlib.Core.Logic.{_⊎_, inl, inr}
 use mathlib.Core.List.{List, _++_}
-use Prim.Native.Nat.{ℕ, _+_, _*_, _%_, _≤_, _<_}
+use Prim.Native.Nat.{ℕ, _+_, _%_, _≤_, _<_}
 use native.Mathlib.Decide.{decLe, ℕ-discrete}
 use native.Mathlib.Omega.{arith}
 use lib.Dec.{eqb}
-use lib.ListN.{length, take, drop, length-append}
+use lib.ListN.{length, take, drop}
 use lib.Seq.{take-at}
 use Rattle.rows.specs.Placed.{placed}
 use Rattle.rows.proofs.Laws.{behind-stays}
@@ -84,7 +84,7 @@ module _ (sizes bodies room : List ℕ) where
             let first′ : between ≡ frontOf sizes ++ drop start room = first ∙ ap (λ (i : ℕ). frontOf sizes ++ drop i room) front in
             let before : take start between ≡ frontOf sizes = ap (take start) first′ ∙ take-at (frontOf sizes) (drop start room) start front in
             let behind : drop (start + length bodies) between ≡ drop (start + length bodies) room =
-                ap (drop (start + length bodies)) first′ ∙ behind-stays (frontOf sizes) room start (start + length bodies) front (omega arith) in
+            ap (drop (start + length bodies)) first′ ∙ behind-stays (frontOf sizes) room start (start + length bodies) front (omega arith) in
             record {
               answered = inr (no-contents ok, inr (no-body sum, inr (no-file (omega (arith, file-size)), inr (no-room (omega (arith, file-size)), (refl, refl)))));
               room-left =
@@ -155,7 +155,7 @@ pub write-only : {sizes bodies room : List ℕ} {r s : WriteAnswer} {room₁ roo
     → (r ≡ s) × (room₁ ≡ room₂)
 write-only {sizes} {bodies} {room} {r} {s} a b =
     let same : (numberOf r ≡ numberOf s) × (placeOf r ≡ placeOf s) =
-        answered-only number (WriteFault sizes bodies room) write-once writeOrder (numberOf r) (placeOf r) (numberOf s) (placeOf s) (a .answered) (b .answered) in
+    answered-only number (WriteFault sizes bodies room) write-once writeOrder (numberOf r) (placeOf r) (numberOf s) (placeOf s) (a .answered) (b .answered) in
     let e : r ≡ s = sym (answer-by-number r) ∙ ap answerWith (same .0) ∙ answer-by-number s in
     (e, a .room-left ∙ ap (λ (q : WriteAnswer). left q (fileOf sizes bodies) room) e ∙ sym (b .room-left))
 

@@ -4,11 +4,11 @@
 --     the contents                 Writing, writing-none, writing-more, writing-all
 -- Assumes nothing.
 use mathlib.Core.Path.{_≡_, refl, sym, ap, ap₂, _∙_, subst}
-use Prim.Native.Nat.{ℕ, zero, suc, _+_, _-_, _*_, _≤_, _<_}
+use Prim.Native.Nat.{ℕ, suc, _+_, _-_, _*_, _≤_, _<_}
 use native.Mathlib.Numerals.{add-one}
 use native.Mathlib.Omega.{arith}
 use mathlib.Core.List.{List, [], _∷_, _++_, append-assoc, append-nil}
-use lib.ListN.{length, take, drop, getD, length-append, length-take, length-drop, drop-of-length-le}
+use lib.ListN.{length, take, drop, getD, length-append, length-drop, drop-of-length-le}
 use lib.Seq.{drop-cons, take-at, drop-at, take-add, take-all, drop-drop, length-take-le}
 use Rattle.rows.specs.LittleEndian.{bytesOf}
 use Rattle.rows.specs.Placed.{placed}
@@ -29,7 +29,7 @@ module _ {A : Type 0} where
       let before : take next ((take at row ++ xs) ++ drop (at + length xs) row) ≡ take at row ++ xs = take-at (take at row ++ xs) (drop (at + length xs) row) next front in
       let behind : drop (next + length ys) ((take at row ++ xs) ++ drop next row) ≡ drop (next + length ys) row = behind-stays (take at row ++ xs) row next (next + length ys) front (omega arith) in
       let behind′ : drop (next + length ys) ((take at row ++ xs) ++ drop (at + length xs) row) ≡ drop (at + length (xs ++ ys)) row =
-          ap (λ (i : ℕ). drop (next + length ys) ((take at row ++ xs) ++ drop i row)) (sym e) ∙ behind ∙ ap (λ (i : ℕ). drop i row) way in
+      ap (λ (i : ℕ). drop (next + length ys) ((take at row ++ xs) ++ drop i row)) (sym e) ∙ behind ∙ ap (λ (i : ℕ). drop i row) way in
       ap₂ (λ (f g : List A). f ++ ys ++ g) before behind′ ∙ ap (λ (f : List A). f ++ drop (at + length (xs ++ ys)) row) (append-assoc (take at row) xs ys)
 
   -- a row that is built from the front, with the next part of the whole put in its place
@@ -40,7 +40,7 @@ module _ {A : Type 0} where
       let seam : length (take i whole) ≡ i = length-take-le i whole (omega (arith, built .full)) in
       let before : take i row ≡ take i whole = ap (take i) (built .so-far) ∙ take-at (take i whole) (drop i row₀) i seam in
       let behind : drop (i + length xs) row ≡ drop (i + m) row₀ =
-          ap (drop (i + length xs)) (built .so-far) ∙ behind-stays (take i whole) row₀ i (i + length xs) seam (omega arith) ∙ ap (λ (j : ℕ). drop (i + j) row₀) size in
+      ap (drop (i + length xs)) (built .so-far) ∙ behind-stays (take i whole) row₀ i (i + length xs) seam (omega arith) ∙ ap (λ (j : ℕ). drop (i + j) row₀) size in
       let part : take m (drop i whole) ≡ xs = ap (take m) here ∙ take-at xs rest m size in
       let whole′ : take (i + m) whole ≡ take i whole ++ xs = take-add i m whole ∙ ap (λ (l : List A). take i whole ++ l) part in
       record {
@@ -81,7 +81,7 @@ pub entry-placed : (at x y z : ℕ) (row : List ℕ) {one two three : List ℕ} 
     → three ≡ placed (at + 4) (bytesOf 2 z) two → three ≡ placed at (bytesOf 2 x ++ bytesOf 2 y ++ bytesOf 2 z) row
 entry-placed at x y z row inside first second third =
     let pair : placed (at + 2) (bytesOf 2 y) (placed at (bytesOf 2 x) row) ≡ placed at (bytesOf 2 x ++ bytesOf 2 y) row =
-        placed-next at (at + 2) (bytesOf 2 x) (bytesOf 2 y) row (omega arith) (omega (arith, length-bytesOf 2 x)) in
+    placed-next at (at + 2) (bytesOf 2 x) (bytesOf 2 y) row (omega arith) (omega (arith, length-bytesOf 2 x)) in
     let size : length (bytesOf 2 x ++ bytesOf 2 y) ≡ 4 = simp (length-append, length-bytesOf) in
     third
     ∙ ap (placed (at + 4) (bytesOf 2 z)) (second ∙ ap (placed (at + 2) (bytesOf 2 y)) first ∙ pair)
@@ -155,7 +155,7 @@ writing-more {sizes} {file₀} {file} {k} {start} {n} {p} w h en ep =
     let later : List ℕ = contentsOf (start + bodySize n p) (drop (2 * (k + 1)) sizes) in
     let size : length entry ≡ 6 = simp (length-append, length-bytesOf) in
     let split : drop (2 * k) sizes ≡ n ∷ p ∷ drop (2 * (k + 1)) sizes =
-        next-job sizes k (omega (arith, w .even)) ∙ ap₂ (λ (a b : ℕ). a ∷ b ∷ drop (2 * (k + 1)) sizes) (sym en) (sym ep) in
+    next-job sizes k (omega (arith, w .even)) ∙ ap₂ (λ (a b : ℕ). a ∷ b ∷ drop (2 * (k + 1)) sizes) (sym en) (sym ep) in
     let here : drop (2 + 6 * k) (frontOf sizes) ≡ entry ++ later = w .rest ∙ ap (contentsOf start) split in
     let way : 2 + 6 * k + 6 ≡ 2 + 6 * (k + 1) = omega arith in
     let built : Built (frontOf sizes) file₀ (contentsEnd (jobCount sizes)) (2 + 6 * k + 6) (placed (2 + 6 * k) entry file) = built-placed 6 entry later (w .built) here size (omega arith) in

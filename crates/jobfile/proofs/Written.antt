@@ -3,9 +3,9 @@
 --
 -- In order: what the writer does not refuse (`Writable`); that it is good and is read back (`written-good`, `written-sizes`,
 -- `written-bodies`); that a good file is such a file (`good-writable`, `good-again`). Assumes nothing.
-use mathlib.Core.Path.{_≡_, refl, sym, ap, _∙_}
+use mathlib.Core.Path.{_≡_, sym, ap, _∙_}
 use mathlib.Core.List.{List, _++_, append-assoc}
-use Prim.Native.Nat.{ℕ, _+_, _*_, _/_, _%_, _≤_, _<_}
+use Prim.Native.Nat.{ℕ, _+_, _*_, _%_, _≤_}
 use native.Mathlib.Omega.{arith}
 use lib.ListN.{length, drop, length-drop}
 use Rattle.rows.specs.LittleEndian.{bytesOf, AllBytes}
@@ -82,7 +82,7 @@ module _ {bytes : List ℕ} (good : GoodFile bytes) where
       let J : ℕ = countIn bytes in
       let way : 2 + 6 * (0 + J) ≡ contentsEnd J = omega arith in
       let contents : contentsOf (contentsEnd J) (sizesIn bytes) ++ drop (2 + 6 * (0 + J)) bytes ≡ drop 2 bytes =
-          contents-again J 0 bytes all (omega (arith, good .contents-inside)) (λ j l h. good .offsets j (omega arith)) in
+      contents-again J 0 bytes all (omega (arith, good .contents-inside)) (λ j l h. good .offsets j (omega arith)) in
       ap (λ (m : ℕ). (bytesOf 2 m ++ contentsOf (contentsEnd m) (sizesIn bytes)) ++ bodiesIn bytes) good-count
       ∙ append-assoc (bytesOf 2 J) (contentsOf (contentsEnd J) (sizesIn bytes)) (bodiesIn bytes)
       ∙ ap (λ (i : ℕ). bytesOf 2 J ++ (contentsOf (contentsEnd J) (sizesIn bytes) ++ drop i bytes)) (sym way)

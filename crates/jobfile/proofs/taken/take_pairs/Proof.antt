@@ -1,3 +1,5 @@
+-- `jobfile::taken::take_pairs` meets its contract.
+-- Assumes nothing.
 use Prim.Native.Nat.{_-_}
 use native.Mathlib.Omega.{arith}
 use borrow.Author.Needs.{needs}
@@ -7,10 +9,6 @@ use Rattle.jobfile.proofs.NumberLaws.{length-rowIn}
 use Rattle.jobfile.proofs.TakenLaws.{next-taken, all-taken}
 use Rattle.jobfile.proofs.taken.take_pairs.Statement.{statement}
 use Rattle.jobfile.proofs.taken.take_pairs.Tie as tie
-use Rattle.jobfile.proofs.taken.take_pairs.Reads as reads
-use Rattle.jobfile.proofs.taken.take_pairs.Lts as lts
-use Rattle.jobfile.proofs.taken.least.Reads as least-reads
-use Rattle.rows.proofs.read16.Reads as read16-reads
 
 abbrev Inv-loop : tie.InvT-loop
 Inv-loop pairs into₀ count i₀ into i = Built (rowIn 2 count pairs) into₀ count i into
@@ -18,47 +16,36 @@ Inv-loop pairs into₀ count i₀ into i = Built (rowIn 2 count pairs) into₀ c
 abbrev μ-loop : tie.MeasureT-loop
 μ-loop pairs into₀ count i₀ into i = count - i
 
--- src/taken.rt:32:9
 least-requires : tie.Need-least-requires Inv-loop μ-loop
 least-requires c κs = search needs
 
--- src/taken.rt:34:5
 loop-holds : tie.Need-loop-holds Inv-loop μ-loop
 loop-holds c = built-none (length-rowIn 2 (c .least .result) _) (c .least .ensures .1)
 
--- src/taken.rt:35:39
 mul-read16 : tie.Need-mul-read16 Inv-loop μ-loop
 mul-read16 c = omega arith
 
--- src/taken.rt:35:19
 read16-requires : tie.Need-read16-requires Inv-loop μ-loop
 read16-requires c κs = omega arith
 
--- src/taken.rt:35:9
 mul-into : tie.Need-mul-into Inv-loop μ-loop
 mul-into c = omega arith
 
--- src/taken.rt:35:9
 slice-write-into : tie.Need-slice-write-into Inv-loop μ-loop
 slice-write-into c = omega arith
 
--- src/taken.rt:36:9
 add-i : tie.Need-add-i Inv-loop μ-loop
 add-i c = omega arith
 
--- src/taken.rt:34:5
 loop-less : tie.Need-loop-less Inv-loop μ-loop
 loop-less c = omega arith
 
--- src/taken.rt:34:5
 loop-again : tie.Need-loop-again Inv-loop μ-loop
 loop-again c = built-more 0 (c .before .before .loop .inv) (c .before .loop-test .taken) (next-taken 2 _ _ _ (c .before .loop-test .taken) (c .read16 .ensures))
 
--- src/taken.rt:29:1
 same-length : tie.Need-same-length Inv-loop μ-loop
 same-length c = c .before .loop .inv .same-length
 
--- src/taken.rt:29:1
 returns : tie.Need-returns Inv-loop μ-loop
 returns c = all-taken 2 _ _ _ (c .before .before .least .ensures .0) (built-all (c .before .loop .inv) (c .loop-test .left))
 

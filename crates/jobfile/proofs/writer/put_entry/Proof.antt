@@ -1,50 +1,41 @@
-use Rattle.jobfile.proofs.WriterLaws.{entry-placed}
+-- `jobfile::writer::put_entry` meets its contract.
+-- Assumes nothing.
 use borrow.Author.Needs.{needs}
+use Rattle.jobfile.proofs.WriterLaws.{entry-placed}
 use Rattle.jobfile.proofs.writer.put_entry.Statement.{statement}
 use Rattle.jobfile.proofs.writer.put_entry.Tie as tie
-use Rattle.jobfile.proofs.writer.put_entry.Reads as reads
-use Rattle.jobfile.proofs.writer.put_entry.Lts as lts
-use Rattle.rows.proofs.write16.Reads as write16-reads
 
--- src/writer.rt:46:29
 cast-write16 : tie.Need-cast-write16
 cast-write16 c = search needs
 
--- src/writer.rt:46:5
 write16-requires : tie.Need-write16-requires
 write16-requires c κs = search needs
 
--- src/writer.rt:47:25
 add-write16 : tie.Need-add-write16
 add-write16 c = search needs
 
--- src/writer.rt:47:33
 cast-write16-2 : tie.Need-cast-write16-2
 cast-write16-2 c = search needs
 
--- src/writer.rt:47:5
 write16-requires-2 : tie.Need-write16-requires-2
 write16-requires-2 c κs = search needs
 
--- src/writer.rt:48:25
 add-write16-2 : tie.Need-add-write16-2
 add-write16-2 c = search needs
 
--- src/writer.rt:48:33
 cast-write16-3 : tie.Need-cast-write16-3
 cast-write16-3 c = search needs
 
--- src/writer.rt:48:5
 write16-requires-3 : tie.Need-write16-requires-3
 write16-requires-3 c κs = search needs
 
--- src/writer.rt:42:1
 same-length : tie.Need-same-length
 same-length c = search needs
 
--- src/writer.rt:42:1
 returns : tie.Need-returns
-returns c = let s : tie.Start = search needs in entry-placed (s .args .at) (s .args .start) (s .args .n) (s .args .p) (s .args .file .now) (s .pre .0) (c .before .before .before .before .before .before .before .before .before .before .write16 .ensures) (c .before .before .before .before .before .before .write162 .ensures) (c .before .before .write163 .ensures)
+returns c =
+    let s : tie.Start = search needs in
+    entry-placed (s .args .at) (s .args .start) (s .args .n) (s .args .p) (s .args .file .now) (s .pre .0) (c .before .before .before .before .before .before .before .before .before .before .write16 .ensures) (c .before .before .before .before .before .before .write162 .ensures) (c .before .before .write163 .ensures)
 
 pub put-entry-spec : {M : Type 1} → statement M
 put-entry-spec =

@@ -1,71 +1,68 @@
+-- `jobfile::writer::write` meets its contract.
+-- Assumes nothing.
 use mathlib.Core.Path.{sym, _∙_}
 use mathlib.Core.Logic.{inl, inr}
 use native.Mathlib.Omega.{arith}
-use Rattle.jobfile.proofs.WriteAnswers.{write-contents, write-body, write-file, write-room, write-all}
 use borrow.Author.Needs.{needs}
+use Rattle.jobfile.proofs.WriteAnswers.{write-contents, write-body, write-file, write-room, write-all}
 use Rattle.jobfile.proofs.writer.write.Statement.{statement}
 use Rattle.jobfile.proofs.writer.write.Tie as tie
-use Rattle.jobfile.proofs.writer.write.Reads as reads
-use Rattle.jobfile.proofs.writer.write.Lts as lts
-use Rattle.jobfile.proofs.writer.bodies_size.Reads as bodies-size-reads
-use Rattle.jobfile.proofs.writer.put_bodies.Reads as put-bodies-reads
-use Rattle.jobfile.proofs.writer.put_contents.Reads as put-contents-reads
 
--- src/writer.rt:83:9
 returns : tie.Need-returns
-returns c = let s : tie.Start = search needs in write-contents (s .args .sizes .now) (s .args .bodies .now) (s .args .room .now) (inl (omega arith))
+returns c =
+    let s : tie.Start = search needs in
+    write-contents (s .args .sizes .now) (s .args .bodies .now) (s .args .room .now) (inl (omega arith))
 
--- src/writer.rt:86:9
 returns-2 : tie.Need-returns-2
-returns-2 c = let s : tie.Start = search needs in write-contents (s .args .sizes .now) (s .args .bodies .now) (s .args .room .now) (inr (inl (omega arith)))
+returns-2 c =
+    let s : tie.Start = search needs in
+    write-contents (s .args .sizes .now) (s .args .bodies .now) (s .args .room .now) (inr (inl (omega arith)))
 
--- src/writer.rt:89:9
 returns-3 : tie.Need-returns-3
-returns-3 c = let s : tie.Start = search needs in write-contents (s .args .sizes .now) (s .args .bodies .now) (s .args .room .now) (inr (inr (omega arith)))
+returns-3 c =
+    let s : tie.Start = search needs in
+    write-contents (s .args .sizes .now) (s .args .bodies .now) (s .args .room .now) (inr (inr (omega arith)))
 
--- src/writer.rt:91:24
 bodies-size-requires : tie.Need-bodies-size-requires
 bodies-size-requires c κs = search needs
 
--- src/writer.rt:92:9
 returns-4 : tie.Need-returns-4
-returns-4 c = let s : tie.Start = search needs in write-body (s .args .sizes .now) (s .args .bodies .now) (s .args .room .now) (omega arith) (λ e. c .if4 .taken (e ∙ sym (c .before .bodies-size .ensures)))
+returns-4 c =
+    let s : tie.Start = search needs in
+    write-body (s .args .sizes .now) (s .args .bodies .now) (s .args .room .now) (omega arith) (λ e. c .if4 .taken (e ∙ sym (c .before .bodies-size .ensures)))
 
--- src/writer.rt:94:21
 mul-start : tie.Need-mul-start
 mul-start c = search needs
 
--- src/writer.rt:94:17
 add-start : tie.Need-add-start
 add-start c = search needs
 
--- src/writer.rt:95:15
 add-end : tie.Need-add-end
 add-end c = search needs
 
--- src/writer.rt:97:9
 returns-5 : tie.Need-returns-5
-returns-5 c = let s : tie.Start = search needs in write-file (s .args .sizes .now) (s .args .bodies .now) (s .args .room .now) (omega arith) (c .before .if4 .left ∙ c .before .before .bodies-size .ensures) (omega arith)
+returns-5 c =
+    let s : tie.Start = search needs in
+    write-file (s .args .sizes .now) (s .args .bodies .now) (s .args .room .now) (omega arith) (c .before .if4 .left ∙ c .before .before .bodies-size .ensures) (omega arith)
 
--- src/writer.rt:100:9
 returns-6 : tie.Need-returns-6
-returns-6 c = let s : tie.Start = search needs in write-room (s .args .sizes .now) (s .args .bodies .now) (s .args .room .now) (omega arith) (c .before .before .if4 .left ∙ c .before .before .before .bodies-size .ensures) (omega arith) (omega arith)
+returns-6 c =
+    let s : tie.Start = search needs in
+    write-room (s .args .sizes .now) (s .args .bodies .now) (s .args .room .now) (omega arith) (c .before .before .if4 .left ∙ c .before .before .before .bodies-size .ensures) (omega arith) (omega arith)
 
--- src/writer.rt:102:5
 put-contents-requires : tie.Need-put-contents-requires
 put-contents-requires c κs = search needs
 
--- src/writer.rt:103:5
 put-bodies-requires : tie.Need-put-bodies-requires
 put-bodies-requires c κs = search needs
 
--- src/writer.rt:79:1
 same-length : tie.Need-same-length
 same-length c = search needs
 
--- src/writer.rt:79:1
 returns-7 : tie.Need-returns-7
-returns-7 c = let s : tie.Start = search needs in write-all (s .args .sizes .now) (s .args .bodies .now) (s .args .room .now) (omega arith) (c .before .before .before .before .before .before .before .before .before .before .if4 .left ∙ c .before .before .before .before .before .before .before .before .before .before .before .bodies-size .ensures) (omega arith) (omega arith) (c .before .before .before .before .before .before .put-contents .ensures) (c .before .before .put-bodies .ensures)
+returns-7 c =
+    let s : tie.Start = search needs in
+    write-all (s .args .sizes .now) (s .args .bodies .now) (s .args .room .now) (omega arith) (c .before .before .before .before .before .before .before .before .before .before .if4 .left ∙ c .before .before .before .before .before .before .before .before .before .before .before .bodies-size .ensures) (omega arith) (omega arith) (c .before .before .before .before .before .before .put-contents .ensures) (c .before .before .put-bodies .ensures)
 
 pub write-spec : {M : Type 1} → statement M
 write-spec =
