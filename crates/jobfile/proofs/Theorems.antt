@@ -6,6 +6,7 @@
 --     good-read-written-again    a good file read and written again has the same bytes
 --     jobs-written, jobs-read-back    jobs written to a file are read back as the same jobs: sizes, words and pairs
 --     job-words, job-pairs       what is taken out of a job's body are that job's words and pairs
+--     read-sizes, read-count, read-length    which sizes count, that they are at most 128, and how long their row is
 --
 -- Two results that a public contract allows are equal: `read-only`, `bodies-only` and `body-only` (ReaderLaws.antt), `write-only`
 -- (WriteAnswers.antt), `taken-only` (TakenLaws.antt). Assumes nothing.
@@ -14,7 +15,7 @@ use mathlib.Core.Bool.{Bool, cond}
 use mathlib.Core.List.{List, [], _++_}
 use Prim.Native.Nat.{ℕ, suc, _+_, _-_, _*_, _≤_, _<_}
 use native.Mathlib.Omega.{arith}
-use lib.ListN.{length, take, drop, getD, replicate, length-drop}
+use lib.ListN.{length, take, drop, getD, replicate, length-replicate, length-append, length-drop}
 use lib.Seq.{take-at, length-take-le}
 use borrow.Author.Tests.{lt-ltb}
 use Rattle.rows.specs.LittleEndian.{AllBytes}
@@ -25,12 +26,12 @@ use Rattle.jobfile.specs.Reader.{Judged, yieldedSizes, yieldedBodies, nu
 use Rattle.jobfile.specs.Writer.{WriteOf, left}
 use Rattle.jobfile.specs.Body.{taken}
 use Rattle.jobfile.specs.declared.answers.FileAnswer.{FileAnswer}
-use Rattle.jobfile.specs.declared.answers.FileAnswer.the-variants.{Good}
+use Rattle.jobfile.specs.declared.answers.FileAnswer.the-variants.{Good, File, Contents, Body}
 use Rattle.jobfile.specs.declared.answers.WriteAnswer.{WriteAnswer}
 use Rattle.jobfile.specs.declared.answers.WriteAnswer.the-variants.{Written}
 use Rattle.jobfile.specs.declared.sizes.Sizes.{Sizes}
 use Rattle.jobfile.proofs.NumberLaws.{length-rowIn}
-use Rattle.jobfile.proofs.FileLaws.{next-start}
+use Rattle.jobfile.proofs.FileLaws.{length-sizesFrom, next-start}
 use Rattle.jobfile.proofs.ReaderLaws.{judged-only, good-judged, judged-good, body-inside}
 use Rattle.jobfile.proofs.WriteAnswers.{written-writable, writable-written}
 use Rattle.jobfile.proofs.Written.{Writable, written-good, written-sizes, written-bodies, good-again, good-writable}
@@ -49,10 +50,13 @@ held : {sizes : Sizes} {xs : List ℕ} → Holds sizes xs → take (sizes .count
 unfolding inRow
 held {sizes} {xs} h = ap₂ (λ (n : ℕ) (l : List ℕ). take n l) (h .counted) (h .numbers) ∙ take-at xs (replicate (128 - length xs) 0) (length xs) refl
 
+pub read-sizes : {bytes : List ℕ} {answer : FileAnswer} {sizes : Sizes} → ReadOf bytes answer sizes → take (sizes .count) (sizes .row) ≡ yieldedSizes answer bytes
+read-sizes r = held (r .yielded)
+
 -- what the reader yields of a good file
 module _ {bytes : List ℕ} (good : GoodFile bytes) where
   pub good-sizes : {answer : FileAnswer} {sizes : Sizes} → ReadOf bytes answer sizes → take (sizes .count) (sizes .row) ≡ sizesIn bytes
-  good-sizes r = held (r .yielded) ∙ ap (λ (q : FileAnswer). yieldedSizes q bytes) (reader-accepts-good r .1 good)
+  good-sizes r = read-sizes r ∙ ap (λ (q : FileAnswer). yieldedSizes q bytes) (reader-accepts-good r .1 good)
 
   pub good-bodies : {part : List ℕ} → BodiesOf bytes part → part ≡ bodiesIn bytes
   good-bodies b = b .yielded ∙ ap (λ (q : FileAnswer). yieldedBodies q bytes) (judged-only (b .answer) Good (b .judged) (good-judged good))
@@ -155,3 +159,28 @@ module _ {bytes part : List ℕ} (good : GoodFile bytes) (k : ℕ) (there : k < 
       ∙ ap (take (length row)) (row-in-front 2 (2 * p) (bodySize n p - 4 * n) (drop (4 * n) body) (omega arith))
       ∙ ap (take (length row)) (sym (entries-pairs p (rowIn 2 (2 * p) (drop (4 * n) body)) (length-rowIn 2 (2 * p) (drop (4 * n) body))))
       ∙ ap (λ (job : FileJob). take (length row) (entriesOf (job .pairs))) (sym job-body)
+
+-- ---- the sizes that count
+
+-- "at most 128 numbers"
+pub read-count : {bytes : List ℕ} {answer : FileAnswer} {sizes : Sizes} → ReadOf bytes answer sizes → sizes .count ≤ 128
+read-count {bytes} {answer} {sizes} r = go answer (r .judged) (r .yielded .counted)
+  where
+    go : (q : FileAnswer) → Judged bytes q → sizes .count ≡ length (yieldedSizes q bytes) → sizes .count ≤ 128
+    go Good judged e = omega (arith, length-sizesFrom (countIn bytes) 0 bytes, judged-good judged .few-jobs)
+    go File judged e = omega arith
+    go Contents judged e = omega arith
+    go (Body entry) judged e = omega arith
+
+pub read-length : {bytes : List ℕ} {answer : FileAnswer} {sizes : Sizes} → ReadOf bytes answer sizes → length (sizes .row) ≡ 128
+unfolding inRow
+read-length {bytes} {answer} r =
+    let xs : List ℕ = yieldedSizes answer bytes in
+    omega (
+      arith,
+      read-count r,
+      r .yielded .counted,
+      ap length (r .yielded .numbers),
+      length-append xs (replicate (128 - length xs) 0),
+      length-replicate {A = ℕ} (128 - length xs) 0,
+    )

@@ -1,6 +1,7 @@
 // The answers of the reader and of the writer.
 ghost use mathlib.Core.Path.{_≡_};
-ghost use Rattle.jobfile.specs.Reader.{passes};
+ghost use Rattle.jobfile.specs.Reader.{passes, numberOf as fileNumber, placeOf as filePlace};
+ghost use Rattle.jobfile.specs.Writer.{numberOf as writeNumber};
 
 // The number of an entry of the contents, from 1; J + 1 for what follows the last body.
 pub struct EntryNumber(pub u16);
@@ -31,5 +32,42 @@ pub(crate) fn is_good(answer: FileAnswer) -> bool
         FileAnswer::File => false,
         FileAnswer::Contents => false,
         FileAnswer::Body(_) => false,
+    }
+}
+
+// The number of a reader's answer, as document 01 has it.
+pub fn file_number(answer: FileAnswer) -> u16
+    ensures { λ r. ⌜ r ≡ fileNumber answer ⌝ }
+{
+    match answer {
+        FileAnswer::Good => 0,
+        FileAnswer::File => 12,
+        FileAnswer::Contents => 13,
+        FileAnswer::Body(_) => 14,
+    }
+}
+
+// The place of a reader's answer.
+pub fn file_place(answer: FileAnswer) -> u16
+    ensures { λ r. ⌜ r ≡ filePlace answer ⌝ }
+{
+    match answer {
+        FileAnswer::Good => 0,
+        FileAnswer::File => 0,
+        FileAnswer::Contents => 0,
+        FileAnswer::Body(entry) => entry.0,
+    }
+}
+
+// The number of a writer's answer. Its place is 0.
+pub fn write_number(answer: WriteAnswer) -> u16
+    ensures { λ r. ⌜ r ≡ writeNumber answer ⌝ }
+{
+    match answer {
+        WriteAnswer::Written => 0,
+        WriteAnswer::Contents => 13,
+        WriteAnswer::Body => 14,
+        WriteAnswer::File => 12,
+        WriteAnswer::Room => 2,
     }
 }
