@@ -8,6 +8,7 @@ use Prim.Native.Nat.{ℕ, _+_, _*_, _≤_, _<_}
 use lib.ListN.{length, drop}
 use borrow.Author.Tests.{lt-ltb, le-ltb}
 use Rattle.jobfile.specs.Reader.{numberOf, placeOf}
+use Rattle.jobfile.specs.Writer.{numberOf as writeNumber}
 use Rattle.jobfile.specs.declared.answers.FileAnswer.{FileAnswer}
 use Rattle.jobfile.specs.declared.sizes.Sizes.{Sizes}
 use Rattle.jobfile.proofs.ReaderLaws.{read-only, bodies-only, body-only}
