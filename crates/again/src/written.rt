@@ -4,7 +4,6 @@ ghost use Prim.Native.Nat.{_≤_};
 ghost use lib.ListN.{length, take};
 ghost use Rattle.again.specs.Again.{AgainOf};
 use jobfile::answers::FileAnswer;
-use jobfile::sizes::Sizes;
 
 // The first n bytes, or all where there are fewer.
 pub(crate) fn front(bytes: &[u8], n: usize) -> &[u8]

@@ -10,7 +10,7 @@ use crate::answers::EntryNumber;
 use crate::answers::FileAnswer;
 
 // A file has at most so many bytes.
-const MOST_BYTES: usize = 32768;
+pub(crate) const MOST_BYTES: usize = 32768;
 
 // A file has at most so many jobs.
 const MOST_JOBS: usize = 64;

@@ -2,7 +2,7 @@
 // sizes .., and the bodies as the part of the file after the contents; a refusal yields an empty row and part."
 ghost use mathlib.Core.Path.{_≡_};
 ghost use mathlib.Core.List.{_++_};
-ghost use Prim.Native.Nat.{_+_, _*_, _≤_, _<_};
+ghost use Prim.Native.Nat.{_*_, _≤_, _<_};
 ghost use lib.ListN.{length, getD, drop};
 ghost use Rattle.jobfile.specs.File.{contentsEnd, countIn, sizesIn, GoodFile};
 ghost use Rattle.jobfile.specs.Reader.{numberedBody, yieldedSizes, Holds, Judged, ReadOf, BodiesOf, BodyOf};

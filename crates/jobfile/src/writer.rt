@@ -2,19 +2,17 @@
 // room."
 ghost use mathlib.Core.Path.{_≡_};
 ghost use mathlib.Core.List.{_++_};
-ghost use Prim.Native.Nat.{_+_, _*_, _≤_, _<_};
+ghost use Prim.Native.Nat.{_+_, _≤_, _<_};
 ghost use lib.ListN.{length, getD, drop};
 ghost use Rattle.rows.specs.LittleEndian.{bytesOf};
 ghost use Rattle.rows.specs.Placed.{placed};
 ghost use Rattle.jobfile.specs.File.{bodiesSize};
 ghost use Rattle.jobfile.specs.Writer.{WriteOf, Fitted, frontOf};
 use crate::answers::WriteAnswer;
+use crate::contents::MOST_BYTES;
 
 // A row of sizes has at most so many numbers, for 64 jobs.
 const MOST_SIZES: usize = 128;
-
-// A file has at most so many bytes.
-const MOST_BYTES: usize = 32768;
 
 // A size, wide enough to compute with. That it is below 65,536 is said too, so that no caller has to show it.
 fn size(sizes: &[u16], i: usize) -> usize
