@@ -1,0 +1,20 @@
+-- `again::written::front` meets its contract.
+-- Assumes nothing.
+use mathlib.Core.Path.{sym}
+use native.Mathlib.Omega.{arith}
+use lib.Seq.{length-take-le, take-all}
+use borrow.Author.Needs.{needs}
+use Rattle.again.proofs.written.front.Statement.{statement}
+use Rattle.again.proofs.written.front.Tie as tie
+
+slice-aggregate-result : tie.Need-slice-aggregate-result
+slice-aggregate-result c = sym (length-take-le _ _ (omega arith))
+
+returns : tie.Need-returns
+returns c = search needs
+
+returns-2 : tie.Need-returns-2
+returns-2 c = sym (take-all (c .before .args .n) (c .before .args .bytes .now) (omega arith))
+
+pub front-spec : {M : Type 1} → statement M
+front-spec = tie.close (tie.spec slice-aggregate-result returns returns-2)

@@ -1,0 +1,20 @@
+-- A file that is read and written again. Assumes nothing.
+use mathlib.Core.Path.{_≡_}
+use mathlib.Core.List.{List, _++_}
+use lib.ListN.{length, drop}
+use Prim.Native.Nat.{ℕ}
+use Rattle.jobfile.specs.Reader.{Judged}
+use Rattle.jobfile.specs.declared.answers.FileAnswer.{FileAnswer}
+use Rattle.jobfile.specs.declared.answers.FileAnswer.the-variants.{Good, File, Contents, Body}
+
+-- "A job file that is read and written again has the same bytes": a good file stands in front of the room, and a refused one
+-- leaves the room as it was
+unfoldable pub roomAfter : FileAnswer → List ℕ → List ℕ → List ℕ
+roomAfter Good file room = file ++ drop (length file) room
+roomAfter File file room = room
+roomAfter Contents file room = room
+roomAfter (Body entry) file room = room
+
+pub record AgainOf (file room : List ℕ) (answer : FileAnswer) (after : List ℕ) : Type 0 where
+  pub judged : Judged file answer
+  pub same : after ≡ roomAfter answer file room

@@ -1,0 +1,35 @@
+// Reads one job file from standard input, reads and writes it again by the functions of `jobfile`, and writes the bytes to
+// standard output. A refused file gives one line: `file`, answer, place.
+mod written;
+
+use jobfile::answers;
+use jobfile::answers::FileAnswer;
+use libc::STDIN_FILENO;
+use libc::STDOUT_FILENO;
+
+// Prints `file`, the answer and the place of a refusal, parted by one space.
+fn print_refusal(answer: FileAnswer) {
+    io::write_all(STDOUT_FILENO, b"file ");
+    io::print_decimal(STDOUT_FILENO, answers::file_number(answer) as u64);
+    io::write_all(STDOUT_FILENO, b" ");
+    io::print_decimal(STDOUT_FILENO, answers::file_place(answer) as u64);
+    io::write_all(STDOUT_FILENO, b"\n");
+}
+
+// Writes what was written again of a file of so many bytes, or the line of its refusal.
+fn print_again(answer: FileAnswer, room: &[u8], size: usize) {
+    if answers::file_number(answer) == 0 {
+        io::write_all(STDOUT_FILENO, written::front(room, size));
+        return;
+    }
+    print_refusal(answer);
+}
+
+// A file has at most 32,768 bytes; one byte more is read, so that a longer one is refused and not cut short.
+fn main() {
+    let mut file = [0u8; 32769];
+    let mut room = [0u8; 32768];
+    let size = io::read_full(STDIN_FILENO, &mut file);
+    let answer = written::again(&file[..size], &mut room);
+    print_again(answer, &room, size);
+}

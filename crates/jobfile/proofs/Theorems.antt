@@ -1,0 +1,186 @@
+-- What holds of the reader and the writer together, from their contracts alone.
+--
+-- In order:
+--     reader-accepts-good        the reader accepts exactly the good files
+--     writer-writes-good         the writer writes only good files, with the sizes and bodies that it was sent
+--     good-read-written-again    a good file read and written again has the same bytes
+--     jobs-written, jobs-read-back    jobs written to a file are read back as the same jobs: sizes, words and pairs
+--     job-words, job-pairs       what is taken out of a job's body are that job's words and pairs
+--     read-sizes, read-count, read-length    which sizes count, that they are at most 128, and how long their row is
+--
+-- Two results that a public contract allows are equal: `read-only`, `bodies-only` and `body-only` (ReaderLaws.antt), `write-only`
+-- (WriteAnswers.antt), `taken-only` (TakenLaws.antt). Assumes nothing.
+use mathlib.Core.Path.{_≡_, refl, sym, ap, ap₂, _∙_, subst}
+use mathlib.Core.Bool.{Bool, cond}
+use mathlib.Core.List.{List, [], _++_}
+use Prim.Native.Nat.{ℕ, suc, _+_, _-_, _*_, _≤_, _<_}
+use native.Mathlib.Omega.{arith}
+use lib.ListN.{length, take, drop, getD, replicate, length-replicate, length-append, length-drop}
+use lib.Seq.{take-at, length-take-le}
+use borrow.Author.Tests.{lt-ltb}
+use Rattle.rows.specs.LittleEndian.{AllBytes}
+use Rattle.jobfile.specs.Numbers.{rowIn}
+use Rattle.jobfile.specs.File.{bodySize, countIn, wordsIn, pairsIn, bodyStart, bodyIn, sizesIn, bodiesIn, GoodFile, fileOf}
+use Rattle.jobfile.specs.Jobs.{FileJob, entriesOf, sizesOf, bodiesOf, fileOfJobs, Holdable, jobIn, jobsFrom, jobsIn}
+use Rattle.jobfile.specs.Reader.{Judged, yieldedSizes, yieldedBodies, numberedBody, yieldedBody, inRow, Holds, ReadOf, BodiesOf, BodyOf}
+use Rattle.jobfile.specs.Writer.{WriteOf, left}
+use Rattle.jobfile.specs.Body.{taken}
+use Rattle.jobfile.specs.declared.answers.FileAnswer.{FileAnswer}
+use Rattle.jobfile.specs.declared.answers.FileAnswer.the-variants.{Good, File, Contents, Body}
+use Rattle.jobfile.specs.declared.answers.WriteAnswer.{WriteAnswer}
+use Rattle.jobfile.specs.declared.answers.WriteAnswer.the-variants.{Written}
+use Rattle.jobfile.specs.declared.sizes.Sizes.{Sizes}
+use Rattle.jobfile.proofs.NumberLaws.{length-rowIn}
+use Rattle.jobfile.proofs.FileLaws.{length-sizesFrom, next-start}
+use Rattle.jobfile.proofs.ReaderLaws.{judged-only, good-judged, judged-good, body-inside}
+use Rattle.jobfile.proofs.WriteAnswers.{written-writable, writable-written}
+use Rattle.jobfile.proofs.Written.{Writable, written-good, written-sizes, written-bodies, good-again, good-writable}
+use Rattle.jobfile.proofs.JobLaws.{entries-pairs, length-sizesOf, jobs-sum, jobs-back, row-in-front, row-front, drop-take, job-there}
+use Rattle.jobfile.proofs.TakenLaws.{taken-full}
+
+-- ---- the reader and the good files
+
+pub reader-accepts-good : {bytes : List ℕ} {answer : FileAnswer} {sizes : Sizes} → ReadOf bytes answer sizes
+    → (answer ≡ Good → GoodFile bytes) × (GoodFile bytes → answer ≡ Good)
+reader-accepts-good {bytes} {answer} r =
+    (λ e. judged-good (subst (Judged bytes) e (r .judged)), λ good. judged-only answer Good (r .judged) (good-judged good))
+
+-- the sizes that count, of a row by value
+held : {sizes : Sizes} {xs : List ℕ} → Holds sizes xs → take (sizes .count) (sizes .row) ≡ xs
+unfolding inRow
+held {sizes} {xs} h = ap₂ (λ (n : ℕ) (l : List ℕ). take n l) (h .counted) (h .numbers) ∙ take-at xs (replicate (128 - length xs) 0) (length xs) refl
+
+pub read-sizes : {bytes : List ℕ} {answer : FileAnswer} {sizes : Sizes} → ReadOf bytes answer sizes → take (sizes .count) (sizes .row) ≡ yieldedSizes answer bytes
+read-sizes r = held (r .yielded)
+
+-- what the reader yields of a good file
+module _ {bytes : List ℕ} (good : GoodFile bytes) where
+  pub good-sizes : {answer : FileAnswer} {sizes : Sizes} → ReadOf bytes answer sizes → take (sizes .count) (sizes .row) ≡ sizesIn bytes
+  good-sizes r = read-sizes r ∙ ap (λ (q : FileAnswer). yieldedSizes q bytes) (reader-accepts-good r .1 good)
+
+  pub good-bodies : {part : List ℕ} → BodiesOf bytes part → part ≡ bodiesIn bytes
+  good-bodies b = b .yielded ∙ ap (λ (q : FileAnswer). yieldedBodies q bytes) (judged-only (b .answer) Good (b .judged) (good-judged good))
+
+  -- of a job that is there, its body
+  pub good-body : {part : List ℕ} {k : ℕ} → k < countIn bytes → BodyOf bytes (suc k) part → part ≡ bodyIn bytes k
+  unfolding numberedBody
+  good-body {part} {k} h b =
+      b .yielded
+      ∙ ap (λ (q : FileAnswer). yieldedBody q bytes (suc k)) (judged-only (b .answer) Good (b .judged) (good-judged good))
+      ∙ ap (λ (x : Bool). cond x (bodyIn bytes k) []) (lt-ltb k (countIn bytes) h)
+
+-- ---- the writer and the good files
+
+pub writer-writes-good : {sizes bodies room after : List ℕ} → WriteOf sizes bodies room Written after
+    → GoodFile (fileOf sizes bodies)
+    × (after ≡ fileOf sizes bodies ++ drop (length (fileOf sizes bodies)) room)
+    × (sizesIn (fileOf sizes bodies) ≡ sizes)
+    × (bodiesIn (fileOf sizes bodies) ≡ bodies)
+unfolding left
+writer-writes-good r = let w = written-writable r in (written-good w, r .room-left, written-sizes w, written-bodies w)
+
+-- ---- a file read and written again
+
+pub good-read-written-again : {bytes part room after : List ℕ} {answer : FileAnswer} {sizes : Sizes} {written : WriteAnswer} → AllBytes bytes → GoodFile bytes
+    → ReadOf bytes answer sizes → BodiesOf bytes part → length bytes ≤ length room → WriteOf (take (sizes .count) (sizes .row)) part room written after
+    → (written ≡ Written) × (after ≡ bytes ++ drop (length bytes) room)
+good-read-written-again {bytes} {part} {room} {after} {sizes = sizes} {written} all good r b enough w =
+    let same : fileOf (sizesIn bytes) (bodiesIn bytes) ≡ bytes = good-again good all in
+    let w′ : WriteOf (sizesIn bytes) (bodiesIn bytes) room written after =
+    subst (λ (l : List ℕ). WriteOf l (bodiesIn bytes) room written after) (good-sizes good r)
+    (subst (λ (l : List ℕ). WriteOf (take (sizes .count) (sizes .row)) l room written after) (good-bodies good b) w) in
+    let done : (written ≡ Written) × (after ≡ fileOf (sizesIn bytes) (bodiesIn bytes) ++ drop (length (fileOf (sizesIn bytes) (bodiesIn bytes))) room) =
+    writable-written (good-writable good all) (omega (arith, ap length same)) w′ in
+    (done .0, done .1 ∙ ap (λ (l : List ℕ). l ++ drop (length l) room) same)
+
+-- ---- jobs written and read back
+
+holdable-writable : {jobs : List FileJob} → Holdable jobs → Writable (sizesOf jobs) (bodiesOf jobs)
+holdable-writable {jobs} h = record {
+  even = omega (arith, length-sizesOf jobs);
+  some-job = omega (arith, length-sizesOf jobs, h .some-job);
+  few-jobs = omega (arith, length-sizesOf jobs, h .few-jobs);
+  sum = jobs-sum jobs;
+  short = h .short;
+}
+
+pub jobs-written : {jobs : List FileJob} {room after : List ℕ} {written : WriteAnswer} → Holdable jobs → length (fileOfJobs jobs) ≤ length room
+    → WriteOf (sizesOf jobs) (bodiesOf jobs) room written after → (written ≡ Written) × (after ≡ fileOfJobs jobs ++ drop (length (fileOfJobs jobs)) room)
+jobs-written h enough w = writable-written (holdable-writable h) enough w
+
+pub jobs-read-back : {jobs : List FileJob} {answer : FileAnswer} {sizes : Sizes} → Holdable jobs → ReadOf (fileOfJobs jobs) answer sizes
+    → (answer ≡ Good) × (take (sizes .count) (sizes .row) ≡ sizesOf jobs) × (jobsIn (fileOfJobs jobs) ≡ jobs)
+jobs-read-back {jobs} h r =
+    let w : Writable (sizesOf jobs) (bodiesOf jobs) = holdable-writable h in
+    let good : GoodFile (fileOfJobs jobs) = written-good w in (
+      reader-accepts-good r .1 good,
+      good-sizes good r ∙ written-sizes w,
+      ap₂ (λ (s b : List ℕ). jobsFrom s b) (written-sizes w) (written-bodies w) ∙ jobs-back jobs (h .numbers-fit),
+    )
+
+-- ---- a job taken out of its body
+
+module _ {bytes part : List ℕ} (good : GoodFile bytes) (k : ℕ) (there : k < countIn bytes) (b : BodyOf bytes (suc k) part) (d : FileJob) where
+  body-size : length part ≡ bodySize (wordsIn bytes k) (pairsIn bytes k)
+  body-size =
+      let inside : bodySize (wordsIn bytes k) (pairsIn bytes k) ≤ length (drop (bodyStart bytes k) bytes) =
+      simp length-drop (omega (arith, next-start bytes k refl refl refl, body-inside good k there)) in
+      ap length (good-body good there b) ∙ length-take-le (bodySize (wordsIn bytes k) (pairsIn bytes k)) (drop (bodyStart bytes k) bytes) inside
+
+  -- job k of the file, by its own body
+  job-body : getD (jobsIn bytes) k d ≡ jobIn (wordsIn bytes k) (pairsIn bytes k) (drop (bodyStart bytes k) bytes)
+  unfolding bodyStart
+  job-body =
+      let way : 0 + k ≡ k = omega arith in
+      job-there (countIn bytes) 0 k bytes d there ∙ ap (λ (i : ℕ). jobIn (wordsIn bytes i) (pairsIn bytes i) (drop (bodyStart bytes i) bytes)) way
+
+  -- a row of at most n entries is filled with the job's first words ..
+  pub job-words : (row : List ℕ) → length row ≤ wordsIn bytes k → taken 4 part row ≡ take (length row) (getD (jobsIn bytes) k d .words)
+  job-words row h =
+      let n : ℕ = wordsIn bytes k in
+      let body : List ℕ = drop (bodyStart bytes k) bytes in
+      taken-full 4 part row (omega (arith, body-size))
+      ∙ row-front 4 (length row) n part h
+      ∙ ap (λ (l : List ℕ). take (length row) (rowIn 4 n l)) (good-body good there b)
+      ∙ ap (take (length row)) (row-in-front 4 n (bodySize n (pairsIn bytes k)) body (omega arith))
+      ∙ ap (λ (job : FileJob). take (length row) (job .words)) (sym job-body)
+
+  -- .. and one of at most 2p entries, from behind the words, with its first addresses
+  pub job-pairs : (row : List ℕ) → length row ≤ 2 * pairsIn bytes k
+      → taken 2 (drop (4 * wordsIn bytes k) part) row ≡ take (length row) (entriesOf (getD (jobsIn bytes) k d .pairs))
+  job-pairs row h =
+      let n : ℕ = wordsIn bytes k in
+      let p : ℕ = pairsIn bytes k in
+      let body : List ℕ = drop (bodyStart bytes k) bytes in
+      let cut : drop (4 * n) part ≡ take (bodySize n p - 4 * n) (drop (4 * n) body) = ap (drop (4 * n)) (good-body good there b) ∙ drop-take (4 * n) (bodySize n p) body in
+      taken-full 2 (drop (4 * n) part) row (omega (arith, body-size, length-drop (4 * n) part))
+      ∙ row-front 2 (length row) (2 * p) (drop (4 * n) part) h
+      ∙ ap (λ (l : List ℕ). take (length row) (rowIn 2 (2 * p) l)) cut
+      ∙ ap (take (length row)) (row-in-front 2 (2 * p) (bodySize n p - 4 * n) (drop (4 * n) body) (omega arith))
+      ∙ ap (take (length row)) (sym (entries-pairs p (rowIn 2 (2 * p) (drop (4 * n) body)) (length-rowIn 2 (2 * p) (drop (4 * n) body))))
+      ∙ ap (λ (job : FileJob). take (length row) (entriesOf (job .pairs))) (sym job-body)
+
+-- ---- the sizes that count
+
+-- "at most 128 numbers"
+pub read-count : {bytes : List ℕ} {answer : FileAnswer} {sizes : Sizes} → ReadOf bytes answer sizes → sizes .count ≤ 128
+read-count {bytes} {answer} {sizes} r = go answer (r .judged) (r .yielded .counted)
+  where
+    go : (q : FileAnswer) → Judged bytes q → sizes .count ≡ length (yieldedSizes q bytes) → sizes .count ≤ 128
+    go Good judged e = omega (arith, length-sizesFrom (countIn bytes) 0 bytes, judged-good judged .few-jobs)
+    go File judged e = omega arith
+    go Contents judged e = omega arith
+    go (Body entry) judged e = omega arith
+
+pub read-length : {bytes : List ℕ} {answer : FileAnswer} {sizes : Sizes} → ReadOf bytes answer sizes → length (sizes .row) ≡ 128
+unfolding inRow
+read-length {bytes} {answer} r =
+    let xs : List ℕ = yieldedSizes answer bytes in
+    omega (
+      arith,
+      read-count r,
+      r .yielded .counted,
+      ap length (r .yielded .numbers),
+      length-append xs (replicate (128 - length xs) 0),
+      length-replicate {A = ℕ} (128 - length xs) 0,
+    )

@@ -1,0 +1,117 @@
+-- What the reader yields, by its answer. In order: the row of sizes (`yield-sizes`, `yield-no-sizes`); the bodies
+-- (`yield-bodies`, `yield-no-bodies`); the body of one job (`numbered-there`, `numbered-nowhere`,
+-- `numbered-inside`, `yield-body`, `yield-no-body`).
+-- Assumes nothing.
+use mathlib.Core.Path.{_≡_, refl, sym, ap, ap₂, _∙_}
+use mathlib.Core.Bool.{Bool, true, false, cond}
+use mathlib.Core.Logic.{_⊎_, inl, inr}
+use mathlib.Core.List.{List, [], _++_}
+use Prim.Native.Nat.{ℕ, zero, suc, _+_, _-_, _*_, _≤_, _<_}
+use native.Mathlib.Omega.{arith}
+use lib.ListN.{length, take, drop, replicate, length-drop, length-replicate, replicate-append-replicate}
+use lib.Seq.{take-all, drop-at}
+use borrow.Author.Tests.{lt-ltb, le-ltb}
+use Rattle.graphs.proofs.Classes.{never}
+use Rattle.jobfile.specs.File.{bodySize, contentsEnd, countIn, offsetIn, wordsIn, pairsIn, bodyStart, bodyIn, sizesIn, GoodFile}
+use Rattle.jobfile.specs.Reader.{Judged, numberedBody, yieldedSizes, yieldedBodies, yieldedBody, inRow, Holds, BodiesOf, BodyOf, passes}
+use Rattle.jobfile.specs.declared.answers.FileAnswer.{FileAnswer}
+use Rattle.jobfile.specs.declared.answers.FileAnswer.the-variants.{Good, File, Contents, Body}
+use Rattle.jobfile.specs.declared.sizes.Sizes.{Sizes}
+use Rattle.jobfile.proofs.FileLaws.{length-sizesFrom, next-start}
+use Rattle.jobfile.proofs.ReaderLaws.{body-inside}
+
+-- by the answer: what is yielded of a good file, and what of a refused one
+by-answer : {A : Type 0} (yielded : FileAnswer → A) (r : FileAnswer) → passes r ≡ true → yielded r ≡ yielded Good
+by-answer yielded Good e = refl
+by-answer yielded File e = never (cc)
+by-answer yielded Contents e = never (cc)
+by-answer yielded (Body entry) e = never (cc)
+
+-- ---- the row of sizes
+
+drop-zeros : (k n : ℕ) → k ≤ n → drop {A = ℕ} k (replicate n 0) ≡ replicate (n - k) 0
+drop-zeros k n h =
+    let way : k + (n - k) ≡ n = omega arith in
+    ap (λ (m : ℕ). drop {A = ℕ} k (replicate m 0)) (sym way)
+    ∙ ap (drop k) (sym (replicate-append-replicate k (n - k) 0))
+    ∙ drop-at {A = ℕ} (replicate k 0) (replicate (n - k) 0) k (length-replicate k 0)
+
+pub yield-sizes : (bytes : List ℕ) (r : FileAnswer) {sizes : Sizes} → passes r ≡ true → countIn bytes ≤ 64
+    → sizes .row ≡ sizesIn bytes ++ drop (sizes .count) (replicate 128 0) → sizes .count ≡ 2 * countIn bytes → Holds sizes (yieldedSizes r bytes)
+unfolding inRow
+yield-sizes bytes r {sizes} p few row count =
+    let size : sizes .count ≡ length (sizesIn bytes) = count ∙ sym (length-sizesFrom (countIn bytes) 0 bytes) in
+    let same : yieldedSizes r bytes ≡ sizesIn bytes = by-answer (λ q. yieldedSizes q bytes) r p in
+    let small : length (sizesIn bytes) ≤ 128 = omega arith in
+    record {
+      numbers =
+          row
+          ∙ ap (λ (k : ℕ). sizesIn bytes ++ drop k (replicate 128 0)) size
+          ∙ ap (λ (l : List ℕ). sizesIn bytes ++ l) (drop-zeros (length (sizesIn bytes)) 128 small)
+          ∙ ap inRow (sym same);
+      counted = size ∙ ap length (sym same);
+    }
+
+pub yield-no-sizes : (bytes : List ℕ) (r : FileAnswer) {sizes : Sizes} → passes r ≡ false → sizes .row ≡ replicate 128 0 → sizes .count ≡ 0 → Holds sizes (yieldedSizes r bytes)
+unfolding inRow
+yield-no-sizes bytes Good p row count = never (cc)
+yield-no-sizes bytes File p row count = record { numbers = row; counted = count }
+yield-no-sizes bytes Contents p row count = record { numbers = row; counted = count }
+yield-no-sizes bytes (Body entry) p row count = record { numbers = row; counted = count }
+
+-- ---- the bodies
+
+pub yield-bodies : {bytes : List ℕ} (r : FileAnswer) (start : ℕ) → Judged bytes r → passes r ≡ true → start ≡ contentsEnd (countIn bytes)
+    → BodiesOf bytes (take (length bytes - start) (drop start bytes))
+yield-bodies {bytes} r start judged p e =
+    let size : length (drop start bytes) ≤ length bytes - start = simp length-drop (omega arith) in
+    record {
+      answer = r;
+      judged = judged;
+      yielded =
+          take-all (length bytes - start) (drop start bytes) size
+          ∙ ap (λ (i : ℕ). drop i bytes) e
+          ∙ sym (by-answer (λ q. yieldedBodies q bytes) r p);
+    }
+
+pub yield-no-bodies : {bytes : List ℕ} (r : FileAnswer) → Judged bytes r → passes r ≡ false → BodiesOf bytes []
+yield-no-bodies Good judged p = never (cc)
+yield-no-bodies File judged p = record { answer = File; judged = judged; yielded = refl }
+yield-no-bodies Contents judged p = record { answer = Contents; judged = judged; yielded = refl }
+yield-no-bodies (Body entry) judged p = record { answer = Body entry; judged = judged; yielded = refl }
+
+-- ---- the body of one job
+
+pub numbered-there : {bytes : List ℕ} (job start size : ℕ) → GoodFile bytes → 0 < job → job ≤ countIn bytes → start ≡ offsetIn bytes (job - 1)
+    → size ≡ bodySize (wordsIn bytes (job - 1)) (pairsIn bytes (job - 1)) → take (start + size - start) (drop start bytes) ≡ numberedBody job bytes
+unfolding numberedBody
+numbered-there zero start size good l h es ez = absurd (omega arith)
+numbered-there {bytes} (suc k) start size good l h es ez =
+    let one : suc k - 1 ≡ k = omega arith in
+    let way : start + size - start ≡ size = omega arith in
+    let begins : start ≡ bodyStart bytes k = es ∙ ap (offsetIn bytes) one ∙ good .offsets k (omega arith) in
+    ap₂ (λ (n at : ℕ). take n (drop at bytes)) (way ∙ ez ∙ ap (λ (j : ℕ). bodySize (wordsIn bytes j) (pairsIn bytes j)) one) begins
+    ∙ sym (ap (λ (b : Bool). cond b (bodyIn bytes k) []) (lt-ltb k (countIn bytes) (omega arith)))
+
+pub numbered-nowhere : (bytes : List ℕ) (job : ℕ) → (job ≡ 0) ⊎ (countIn bytes < job) → [] ≡ numberedBody job bytes
+unfolding numberedBody
+numbered-nowhere bytes zero w = refl
+numbered-nowhere bytes (suc k) (inl e) = absurd (omega arith)
+numbered-nowhere bytes (suc k) (inr h) = sym (ap (λ (b : Bool). cond b (bodyIn bytes k) []) (le-ltb k (countIn bytes) (omega arith)))
+
+-- a body that starts where the contents say ends within the file
+pub numbered-inside : {bytes : List ℕ} (job start size : ℕ) → GoodFile bytes → 0 < job → job ≤ countIn bytes → start ≡ offsetIn bytes (job - 1)
+    → size ≡ bodySize (wordsIn bytes (job - 1)) (pairsIn bytes (job - 1)) → start + size ≤ length bytes
+numbered-inside {bytes} job start size good l h es ez =
+    let k : ℕ = job - 1 in
+    let begins : start ≡ bodyStart bytes k = es ∙ good .offsets k (omega arith) in
+    omega (arith, next-start bytes k begins refl refl, body-inside good k (omega arith))
+
+pub yield-body : {bytes part : List ℕ} (r : FileAnswer) (job : ℕ) → Judged bytes r → passes r ≡ true → part ≡ numberedBody job bytes → BodyOf bytes job part
+yield-body {bytes} r job judged p e = record { answer = r; judged = judged; yielded = e ∙ sym (by-answer (λ q. yieldedBody q bytes job) r p) }
+
+pub yield-no-body : {bytes : List ℕ} (r : FileAnswer) (job : ℕ) → Judged bytes r → passes r ≡ false → BodyOf bytes job []
+yield-no-body Good job judged p = never (cc)
+yield-no-body File job judged p = record { answer = File; judged = judged; yielded = refl }
+yield-no-body Contents job judged p = record { answer = Contents; judged = judged; yielded = refl }
+yield-no-body (Body entry) job judged p = record { answer = Body entry; judged = judged; yielded = refl }

@@ -1,0 +1,63 @@
+-- The jobs of a job file: each a table's words and a list's pairs. The sentences quoted are document 01's, "The job file".
+-- Assumes nothing.
+use mathlib.Core.List.{List, [], _∷_, _++_}
+use Prim.Native.Nat.{ℕ, _*_, _^_, _≤_}
+use lib.ListN.{length, drop}
+use Rattle.graphs.specs.Partition.{Pair}
+use Rattle.table.specs.Faults.{pairsOf}
+use Rattle.jobfile.specs.Numbers.{bytesOfRow, rowIn, AllBelow}
+use Rattle.jobfile.specs.File.{bodySize, sizesIn, bodiesIn, fileOf}
+
+pub record FileJob : Type 0 where
+  pub words : List ℕ
+  pub pairs : List Pair
+
+-- "as 16-bit addresses: left, right, left, right"
+unfoldable pub entriesOf : List Pair → List ℕ
+entriesOf [] = []
+entriesOf (pair ∷ pairs) = pair .left ∷ pair .right ∷ entriesOf pairs
+
+-- ---- a file of jobs
+
+-- n, p, n, p, ..
+unfoldable pub sizesOf : List FileJob → List ℕ
+sizesOf [] = []
+sizesOf (job ∷ jobs) = length (job .words) ∷ length (job .pairs) ∷ sizesOf jobs
+
+-- "A body is n words and p pairs": table words have 4 bytes, addresses 2
+abbrev pub bodyOf : FileJob → List ℕ
+bodyOf job = bytesOfRow 4 (job .words) ++ bytesOfRow 2 (entriesOf (job .pairs))
+
+unfoldable pub bodiesOf : List FileJob → List ℕ
+bodiesOf [] = []
+bodiesOf (job ∷ jobs) = bodyOf job ++ bodiesOf jobs
+
+abbrev pub fileOfJobs : List FileJob → List ℕ
+fileOfJobs jobs = fileOf (sizesOf jobs) (bodiesOf jobs)
+
+-- each word is a number of 32 bits, and each address one of 16
+abbrev pub AllFit : List FileJob → Type 0
+AllFit [] = Unit {0}
+AllFit (job ∷ jobs) = AllBelow (256 ^ 4) (job .words) × AllBelow (256 ^ 2) (entriesOf (job .pairs)) × AllFit jobs
+
+-- Jobs that a file can hold: 1 to 64, in a file of at most 32,768 bytes.
+pub record Holdable (jobs : List FileJob) : Type 0 where
+  pub some-job : 1 ≤ length jobs
+  pub few-jobs : length jobs ≤ 64
+  pub short : length (fileOfJobs jobs) ≤ 32768
+  pub numbers-fit : AllFit jobs
+
+-- ---- the jobs in a file
+
+-- a job out of a body, by n and p
+abbrev pub jobIn : ℕ → ℕ → List ℕ → FileJob
+jobIn n p body = record { words = rowIn 4 n body; pairs = pairsOf (rowIn 2 (2 * p) (drop (4 * n) body)) }
+
+-- the jobs of a row of sizes, out of their bodies end to end
+unfoldable pub jobsFrom : List ℕ → List ℕ → List FileJob
+jobsFrom [] bodies = []
+jobsFrom (n ∷ []) bodies = []
+jobsFrom (n ∷ p ∷ sizes) bodies = jobIn n p bodies ∷ jobsFrom sizes (drop (bodySize n p) bodies)
+
+abbrev pub jobsIn : List ℕ → List FileJob
+jobsIn bytes = jobsFrom (sizesIn bytes) (bodiesIn bytes)

@@ -1,0 +1,105 @@
+-- What the reader answers, and what it yields. The sentences quoted are document 01's, "The job file". Assumes nothing.
+use mathlib.Core.Path.{_≡_}
+use mathlib.Core.Bool.{Bool, true, false, cond}
+use mathlib.Core.List.{List, [], _∷_, _++_}
+use Prim.Native.Nat.{ℕ, zero, suc, _-_, _≤_}
+use lib.Dec.{ltb}
+use lib.ListN.{length, replicate}
+use Rattle.table.specs.Answers.{Answered}
+use Rattle.jobfile.specs.File.{contentsEnd, countIn, bodyIn, sizesIn, bodiesIn}
+use Rattle.jobfile.specs.Faults.{BODY, number, ReadFault, readOrder}
+use Rattle.jobfile.specs.declared.answers.FileAnswer.{FileAnswer}
+use Rattle.jobfile.specs.declared.answers.FileAnswer.the-variants.{Good, File, Contents, Body}
+use Rattle.jobfile.specs.declared.sizes.Sizes.{Sizes}
+
+-- ---- the numbers of an answer
+
+abbrev pub numberOf : FileAnswer → ℕ
+numberOf Good = 0
+numberOf File = 12
+numberOf Contents = 13
+numberOf (Body entry) = 14
+
+abbrev pub placeOf : FileAnswer → ℕ
+placeOf Good = 0
+placeOf File = 0
+placeOf Contents = 0
+placeOf (Body entry) = entry .0
+
+-- "The lowest number wins, then the lowest place. A good file answers 0, place 0"
+abbrev pub Judged : List ℕ → FileAnswer → Type 0
+Judged bytes answer = Answered number (ReadFault bytes) readOrder (numberOf answer) (placeOf answer)
+
+-- ---- what it yields
+
+-- "the row of sizes"; "a refusal yields an empty row and part"
+abbrev pub yieldedSizes : FileAnswer → List ℕ → List ℕ
+yieldedSizes Good bytes = sizesIn bytes
+yieldedSizes File bytes = []
+yieldedSizes Contents bytes = []
+yieldedSizes (Body entry) bytes = []
+
+-- "and the bodies as the part of the file after the contents"
+abbrev pub yieldedBodies : FileAnswer → List ℕ → List ℕ
+yieldedBodies Good bytes = bodiesIn bytes
+yieldedBodies File bytes = []
+yieldedBodies Contents bytes = []
+yieldedBodies (Body entry) bytes = []
+
+-- the body of a job, by its number from 1, and nothing where there is no such job
+unfoldable pub numberedBody : ℕ → List ℕ → List ℕ
+numberedBody zero bytes = []
+numberedBody (suc k) bytes = cond (ltb k (countIn bytes)) (bodyIn bytes k) []
+
+abbrev pub yieldedBody : FileAnswer → List ℕ → ℕ → List ℕ
+yieldedBody Good bytes job = numberedBody job bytes
+yieldedBody File bytes job = []
+yieldedBody Contents bytes job = []
+yieldedBody (Body entry) bytes job = []
+
+-- "by value, at most 128 numbers, unused places 0"
+unfoldable pub inRow : List ℕ → List ℕ
+inRow xs = xs ++ replicate (128 - length xs) 0
+
+-- a row of sizes by value holds these sizes
+pub record Holds (sizes : Sizes) (xs : List ℕ) : Type 0 where
+  pub numbers : sizes .row ≡ inRow xs
+  pub counted : sizes .count ≡ length xs
+
+-- ---- the reader's functions
+
+pub record ReadOf (bytes : List ℕ) (answer : FileAnswer) (sizes : Sizes) : Type 0 where
+  pub judged : Judged bytes answer
+  pub yielded : Holds sizes (yieldedSizes answer bytes)
+
+-- the one answer that the reader gives of the file, and what it then yields
+pub record BodiesOf (bytes part : List ℕ) : Type 0 where
+  pub answer : FileAnswer
+  pub judged : Judged bytes answer
+  pub yielded : part ≡ yieldedBodies answer bytes
+
+pub record BodyOf (bytes : List ℕ) (job : ℕ) (part : List ℕ) : Type 0 where
+  pub answer : FileAnswer
+  pub judged : Judged bytes answer
+  pub yielded : part ≡ yieldedBody answer bytes job
+
+-- ---- for the reader's own functions alone
+
+abbrev pub passes : FileAnswer → Bool
+passes Good = true
+passes File = false
+passes Contents = false
+passes (Body entry) = false
+
+-- the count was read: neither 12 nor 13 applies
+pub record Opened (bytes : List ℕ) (jobs : ℕ) : Type 0 where
+  pub counted : jobs ≡ countIn bytes
+  pub at-least : 2 ≤ length bytes
+  pub at-most : length bytes ≤ 32768
+  pub some-job : 1 ≤ countIn bytes
+  pub few-jobs : countIn bytes ≤ 64
+  pub contents-inside : contentsEnd (countIn bytes) ≤ length bytes
+
+-- the answer by the row 14 alone
+abbrev pub BodiesJudged : List ℕ → FileAnswer → Type 0
+BodiesJudged bytes answer = Answered number (ReadFault bytes) (BODY ∷ []) (numberOf answer) (placeOf answer)

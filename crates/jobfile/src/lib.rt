@@ -1,0 +1,18 @@
+// The job file of document 01: read, written, and taken apart into a job's table and list.
+//
+// No function here asks anything of its caller. A definition of specs/ says for each what it answers and what it leaves in
+// the rows that it is lent, and a theorem of proofs/Theorems.antt that it says so of one result only.
+pub mod answers;
+mod contents;
+mod reader;
+pub mod sizes;
+mod taken;
+mod writer;
+
+pub use reader::FileRead;
+pub use reader::bodies;
+pub use reader::body;
+pub use reader::read;
+pub use taken::take_pairs;
+pub use taken::take_words;
+pub use writer::write;

@@ -1,0 +1,416 @@
+//! The job file: each refusal of the reader and of the writer at its edge and one past it, the places,
+//! files read and written again, and a comparison with a second reader on many damaged files.
+
+use std::io::Write;
+use std::process::{Command, Stdio};
+
+use station_tests::files::{
+    bodies, body, pairs, read, words, write, BODY, CONTENTS, FILE, GOOD, MOST_BYTES, PLACES, ROOM,
+};
+use station_tests::repository;
+use station_tests::table::{argument_count, constant, function, pointer, variable};
+
+/// A job as a test has it: the table's words, and the list's addresses, two a pair.
+type Job = (Vec<u32>, Vec<u16>);
+
+/// The two jobs of document 01, examples A and B.
+fn examples() -> Vec<Job> {
+    let a = vec![
+        0,
+        function(1),
+        argument_count(3),
+        variable(1),
+        variable(2),
+        pointer(6),
+        function(2),
+        argument_count(1),
+        pointer(3),
+        function(1),
+        argument_count(3),
+        constant(3),
+        pointer(14),
+        pointer(4),
+        function(2),
+        argument_count(1),
+        variable(3),
+    ];
+    let b = vec![0, function(1), argument_count(1), variable(1)];
+    vec![(a, vec![1, 9]), (b, vec![1, 3])]
+}
+
+/// So many jobs of one word and one pair each.
+fn small(count: usize) -> Vec<Job> {
+    (0..count)
+        .map(|k| (vec![k as u32], vec![k as u16, 7]))
+        .collect()
+}
+
+fn sizes_of(jobs: &[Job]) -> Vec<u16> {
+    jobs.iter()
+        .flat_map(|(w, p)| [w.len() as u16, (p.len() / 2) as u16])
+        .collect()
+}
+
+fn bodies_of(jobs: &[Job]) -> Vec<u8> {
+    let mut bytes = Vec::new();
+    for (words, pairs) in jobs {
+        bytes.extend(words.iter().flat_map(|w| w.to_le_bytes()));
+        bytes.extend(pairs.iter().flat_map(|a| a.to_le_bytes()));
+    }
+    bytes
+}
+
+/// A file by the words of document 01, made without the writer.
+fn file_of(jobs: &[Job]) -> Vec<u8> {
+    let mut bytes = (jobs.len() as u16).to_le_bytes().to_vec();
+    let mut start = 2 + 6 * jobs.len();
+    for (words, pairs) in jobs {
+        for number in [start, words.len(), pairs.len() / 2] {
+            bytes.extend((number as u16).to_le_bytes());
+        }
+        start += 4 * words.len() + 2 * pairs.len();
+    }
+    bytes.extend(bodies_of(jobs));
+    bytes
+}
+
+/// One job whose body fills a file of this size; 4 divides size - 8.
+fn file_of_size(size: usize) -> Vec<u8> {
+    file_of(&[(vec![0; (size - 8) / 4], vec![])])
+}
+
+fn set16(file: &mut [u8], at: usize, number: u16) {
+    file[at..at + 2].copy_from_slice(&number.to_le_bytes());
+}
+
+fn number(file: &[u8], at: usize) -> usize {
+    file[at] as usize + 256 * file[at + 1] as usize
+}
+
+/// A second reader: answer and place.
+fn judged(file: &[u8]) -> (u16, u16) {
+    if file.len() < 2 || file.len() > MOST_BYTES {
+        return (FILE, 0);
+    }
+    let jobs = number(file, 0);
+    if jobs == 0 || jobs > 64 || 2 + 6 * jobs > file.len() {
+        return (CONTENTS, 0);
+    }
+    let mut end = 2 + 6 * jobs;
+    for (k, entry) in file[2..end].to_vec().chunks(6).enumerate() {
+        let here = end;
+        end += 4 * (number(entry, 2) + number(entry, 4));
+        if number(entry, 0) != here || end > file.len() {
+            return (BODY, k as u16 + 1);
+        }
+    }
+    if end < file.len() {
+        return (BODY, jobs as u16 + 1);
+    }
+    (GOOD, 0)
+}
+
+/// The answer and place of a file; and that what it yields is as document 01 says, and that a good
+/// one is written again with the same bytes.
+fn answer(file: &[u8]) -> (u16, u16) {
+    let found = read(file);
+    let part = bodies(file);
+    assert_eq!((found.answer, found.place), judged(file));
+    assert_eq!(found.row.len(), PLACES);
+    assert!(found.row[found.count..].iter().all(|&x| x == 0), "unused");
+    if found.answer == GOOD {
+        let jobs = number(file, 0);
+        assert_eq!(found.count, 2 * jobs);
+        for k in 0..jobs {
+            assert_eq!(found.row[2 * k] as usize, number(file, 2 + 6 * k + 2));
+            assert_eq!(found.row[2 * k + 1] as usize, number(file, 2 + 6 * k + 4));
+        }
+        assert_eq!(part, file[2 + 6 * jobs..].to_vec());
+        let mut room = vec![0xee; file.len() + 3];
+        assert_eq!(write(&found.row[..found.count], &part, &mut room), GOOD);
+        assert_eq!(room[..file.len()], file[..]);
+        assert_eq!(room[file.len()..], [0xee; 3]);
+    } else {
+        assert_eq!(found.count, 0);
+        assert!(part.is_empty());
+        assert!(body(file, 1).is_empty());
+    }
+    (found.answer, found.place)
+}
+
+#[test]
+fn the_file_of_document_01() {
+    let jobs = examples();
+    let file = file_of(&jobs);
+    assert_eq!(file.len(), 106);
+    assert_eq!((number(&file, 2), number(&file, 8)), (14, 86));
+    assert_eq!(answer(&file), (GOOD, 0));
+    let mut room = vec![0; 106];
+    assert_eq!(write(&sizes_of(&jobs), &bodies_of(&jobs), &mut room), GOOD);
+    assert_eq!(room, file);
+}
+
+#[test]
+fn few_bytes() {
+    assert_eq!(answer(&[]), (FILE, 0));
+    assert_eq!(answer(&[1]), (FILE, 0));
+    assert_eq!(answer(&[0, 0]), (CONTENTS, 0));
+    assert_eq!(answer(&[1, 0]), (CONTENTS, 0));
+}
+
+#[test]
+fn counts_of_jobs() {
+    let mut none = file_of(&small(1));
+    set16(&mut none, 0, 0);
+    assert_eq!(answer(&none), (CONTENTS, 0));
+    assert_eq!(answer(&file_of(&small(1))), (GOOD, 0));
+    assert_eq!(answer(&file_of(&small(64))), (GOOD, 0));
+    assert_eq!(answer(&file_of(&small(65))), (CONTENTS, 0));
+    let mut many = file_of(&small(64));
+    set16(&mut many, 0, 65_535);
+    assert_eq!(answer(&many), (CONTENTS, 0));
+}
+
+#[test]
+fn contents_pass_the_end() {
+    let file = file_of(&small(3));
+    for size in 2..20 {
+        assert_eq!(answer(&file[..size]), (CONTENTS, 0), "{size} bytes");
+    }
+    assert_eq!(answer(&file[..20]), (BODY, 1));
+    // the high byte of the count is no second count
+    assert_eq!(answer(&[0, 1, 0, 0, 0, 0, 0, 0]), (CONTENTS, 0));
+}
+
+#[test]
+fn offsets_one_off() {
+    for k in [0, 2, 4] {
+        for off in [-1, 1] {
+            let mut file = file_of(&small(5));
+            let right = number(&file, 2 + 6 * k) as i32;
+            set16(&mut file, 2 + 6 * k, (right + off) as u16);
+            assert_eq!(answer(&file), (BODY, k as u16 + 1));
+        }
+    }
+}
+
+#[test]
+fn ends_of_bodies() {
+    let mut file = file_of(&small(3));
+    assert_eq!(answer(&file), (GOOD, 0));
+    assert_eq!(answer(&file[..file.len() - 1]), (BODY, 3));
+    file.push(0);
+    assert_eq!(answer(&file), (BODY, 4));
+    // one more pair in the middle: that body still ends within the file, and the next offset is wrong
+    let mut longer = file_of(&small(3));
+    set16(&mut longer, 8 + 4, 2);
+    assert_eq!(answer(&longer), (BODY, 3));
+}
+
+#[test]
+fn lowest_place() {
+    let mut file = file_of(&small(5));
+    set16(&mut file, 2 + 6 * 3, 0);
+    set16(&mut file, 2 + 6, 0);
+    file.push(0);
+    assert_eq!(answer(&file), (BODY, 2));
+}
+
+#[test]
+fn sizes_of_files() {
+    assert_eq!(answer(&file_of_size(MOST_BYTES)), (GOOD, 0));
+    let mut over = file_of_size(MOST_BYTES);
+    over.push(0);
+    assert_eq!(over.len(), 32_769);
+    assert_eq!(answer(&over), (FILE, 0));
+    assert_eq!(answer(&file_of_size(MOST_BYTES + 4)), (FILE, 0));
+}
+
+#[test]
+fn sizes_at_their_limits() {
+    // n of 0 is for the job to refuse
+    assert_eq!(answer(&file_of(&[(vec![], vec![])])), (GOOD, 0));
+    assert_eq!(
+        answer(&file_of(&[(vec![], vec![]), (vec![5], vec![])])),
+        (GOOD, 0)
+    );
+    for at in [4, 6] {
+        let mut file = file_of(&[(vec![], vec![])]);
+        set16(&mut file, at, 65_535);
+        assert_eq!(answer(&file), (BODY, 1));
+    }
+    let mut most = file_of(&small(64));
+    for k in 0..64 {
+        set16(&mut most, 2 + 6 * k + 2, 65_535);
+        set16(&mut most, 2 + 6 * k + 4, 65_535);
+    }
+    assert_eq!(answer(&most), (BODY, 1));
+}
+
+#[test]
+fn jobs_are_taken_out() {
+    let jobs = examples();
+    let file = file_of(&jobs);
+    for (k, (table, list)) in jobs.iter().enumerate() {
+        let own = body(&file, k + 1);
+        let mut row = vec![0; table.len()];
+        words(&own, &mut row);
+        assert_eq!(&row, table);
+        let mut addresses = vec![0; list.len()];
+        pairs(&own[4 * table.len()..], &mut addresses);
+        assert_eq!(&addresses, list);
+    }
+    assert!(body(&file, 0).is_empty());
+    assert!(body(&file, 3).is_empty());
+    assert!(body(&file, usize::MAX).is_empty());
+}
+
+#[test]
+fn copies_stop_at_either_end() {
+    let bytes: Vec<u8> = (1..=11).collect();
+    let mut row = [9; 4];
+    words(&bytes, &mut row);
+    assert_eq!(row, [0x0403_0201, 0x0807_0605, 9, 9]);
+    let mut short = [9; 1];
+    words(&bytes, &mut short);
+    assert_eq!(short, [0x0403_0201]);
+    let mut addresses = [9; 6];
+    pairs(&bytes, &mut addresses);
+    assert_eq!(addresses, [0x0201, 0x0403, 0x0605, 0x0807, 0x0a09, 9]);
+    words(&bytes, &mut []);
+    pairs(&[], &mut addresses);
+    assert_eq!(addresses[0], 0x0201);
+}
+
+/// The writer's refusal of what it is sent; and that it writes nothing then.
+fn refusal(sizes: &[u16], bodies: &[u8], room: usize) -> u16 {
+    let mut bytes = vec![0xee; room];
+    let answer = write(sizes, bodies, &mut bytes);
+    assert_ne!(answer, GOOD);
+    assert!(bytes.iter().all(|&b| b == 0xee));
+    answer
+}
+
+#[test]
+fn the_writer_refuses() {
+    let jobs = small(3);
+    let (sizes, bytes) = (sizes_of(&jobs), bodies_of(&jobs));
+    assert_eq!(refusal(&[], &[], 100), CONTENTS);
+    assert_eq!(refusal(&sizes[..5], &bytes, 100), CONTENTS);
+    assert_eq!(refusal(&[1; 129], &[0; 129 * 4], 4_000), CONTENTS);
+    assert_eq!(refusal(&[1; 130], &[0; 130 * 4], 4_000), CONTENTS);
+    assert_eq!(refusal(&sizes, &bytes[1..], 100), BODY);
+    assert_eq!(refusal(&sizes, &[&bytes[..], &[0]].concat(), 100), BODY);
+    assert_eq!(refusal(&[65_535, 65_535], &[], 100), BODY);
+    assert_eq!(refusal(&[65_535; 128], &[], 100), BODY);
+    assert_eq!(refusal(&[65_535, 0], &vec![0; 262_140], 300_000), FILE);
+    assert_eq!(refusal(&[8_191, 0], &vec![0; 32_764], 40_000), FILE);
+    assert_eq!(refusal(&sizes, &bytes, 43), ROOM);
+    assert_eq!(refusal(&sizes, &bytes, 0), ROOM);
+    // in this order
+    assert_eq!(refusal(&sizes[..5], &[0; 40_000], 0), CONTENTS);
+    assert_eq!(refusal(&sizes, &[0; 40_000], 0), BODY);
+    assert_eq!(refusal(&[10_000, 0], &[0; 40_000], 0), FILE);
+}
+
+#[test]
+fn the_writer_writes() {
+    for count in [1, 2, 63, 64] {
+        let jobs = small(count);
+        let file = file_of(&jobs);
+        for more in [0, 5] {
+            let mut room = vec![0xee; file.len() + more];
+            assert_eq!(write(&sizes_of(&jobs), &bodies_of(&jobs), &mut room), GOOD);
+            assert_eq!(room[..file.len()], file[..]);
+            assert!(room[file.len()..].iter().all(|&b| b == 0xee));
+        }
+    }
+    let mut room = vec![0; MOST_BYTES];
+    assert_eq!(write(&[8_190, 0], &vec![1; 32_760], &mut room), GOOD);
+    assert_eq!(answer(&room), (GOOD, 0));
+}
+
+/// Numbers that look random, the same at each run.
+struct Numbers(u64);
+
+impl Numbers {
+    fn below(&mut self, most: usize) -> usize {
+        self.0 = self
+            .0
+            .wrapping_mul(6_364_136_223_846_793_005)
+            .wrapping_add(1);
+        ((self.0 >> 33) % most as u64) as usize
+    }
+}
+
+#[test]
+fn damaged_files() {
+    let mut numbers = Numbers(1);
+    let mut good = 0;
+    for _ in 0..20_000 {
+        let jobs: Vec<Job> = (0..1 + numbers.below(6))
+            .map(|_| {
+                let words = (0..numbers.below(4)).map(|_| numbers.below(1 << 21) as u32);
+                let words: Vec<u32> = words.collect();
+                let pairs = (0..2 * numbers.below(3)).map(|_| numbers.below(65_536) as u16);
+                (words, pairs.collect())
+            })
+            .collect();
+        let mut file = file_of(&jobs);
+        for _ in 0..numbers.below(3) {
+            let contents = 2 + 6 * jobs.len();
+            match numbers.below(4) {
+                0 => {
+                    let at = numbers.below(contents);
+                    file[at] = numbers.below(256) as u8;
+                }
+                1 => {
+                    let at = 2 * numbers.below(contents / 2);
+                    let near = number(&file, at) + numbers.below(3);
+                    set16(&mut file, at, near.saturating_sub(1) as u16);
+                }
+                2 => file.push(0),
+                _ => {
+                    file.pop();
+                    file.resize(file.len().max(contents), 0);
+                }
+            }
+        }
+        if answer(&file).0 == GOOD {
+            good += 1;
+        }
+    }
+    assert!((5_000..15_000).contains(&good), "{good} good files");
+}
+
+/// What the program `again` writes for a file; `rt check again` makes it.
+fn again(file: &[u8]) -> Vec<u8> {
+    let mut child = Command::new(repository().join("target/bin/again"))
+        .stdin(Stdio::piped())
+        .stdout(Stdio::piped())
+        .spawn()
+        .expect("target/bin/again is there: `rt check again` makes it");
+    let mut input = child.stdin.take().expect("its input is piped");
+    input.write_all(file).expect("it reads its input");
+    drop(input);
+    child.wait_with_output().expect("it ends").stdout
+}
+
+#[test]
+fn the_program_again() {
+    for file in [
+        file_of(&examples()),
+        file_of(&small(64)),
+        file_of_size(MOST_BYTES),
+    ] {
+        assert_eq!(again(&file), file);
+    }
+    assert_eq!(again(b""), b"file 12 0\n");
+    assert_eq!(again(b"\0\0"), b"file 13 0\n");
+    let mut over = file_of_size(MOST_BYTES);
+    over.push(0);
+    assert_eq!(again(&over), b"file 12 0\n");
+    let mut follows = file_of(&small(64));
+    follows.push(0);
+    assert_eq!(again(&follows), b"file 14 65\n");
+}
