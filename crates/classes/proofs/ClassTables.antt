@@ -18,7 +18,7 @@ use Rattle.graphs.proofs.Classes.{never, node-or-nothing, same-labels, same-nod
 use Rattle.graphs.proofs.Certificates.{key-symbol, key-variable, key-nothing, first-names}
 use Rattle.table.specs.Table.{TableSymbols, graphOf, childOf}
 use Rattle.classes.specs.Forest.{Flattened}
-use Rattle.classes.specs.Meeting.{Checked, OneSymbol, State, Within, Agrees, Complete, Moved}
+use Rattle.classes.specs.Meeting.{PassedCheck, OneSymbol, State, Within, Agrees, Complete, Moved}
 use Rattle.classes.proofs.Symbols.{degree-of-head, child-of-head, head-of-degree, head-0, one-symbol-children}
 use Rattle.classes.proofs.Shortened.{config, shorter-moved}
 
@@ -37,7 +37,7 @@ front-empty n row x long f = go (ltb x n) refl
 
 -- ---- the end of a list
 
-module _ {t : List ℕ} {pairs : List Pair} (checked : Checked t) (sides : Sides (graphOf t) pairs) where
+module _ {t : List ℕ} {pairs : List Pair} (checked : PassedCheck t) (sides : Sides (graphOf t) pairs) where
   module _ {row work : List ℕ} (state : State t row work 0) (within : Within t pairs (config row work 0 [])) (complete : Complete t pairs (config row work 0 []))
       (flat : (x : ℕ) → x < length t → entry row (entry row x) ≡ entry row x) where
     own-labels : Agrees t (config row work 0 []) (entry row)
@@ -127,7 +127,7 @@ pub classes-few : {S : Symbols} (G : Graph S) (row : List ℕ) → classes G row
 unfolding classes
 classes-few G row = count-below _ (G .size)
 
-module _ {t : List ℕ} (row work : List ℕ) {earlier : List Pair} (checked : Checked t) (sides : Sides (graphOf t) earlier) (long : length t ≤ length row)
+module _ {t : List ℕ} (row work : List ℕ) {earlier : List Pair} (checked : PassedCheck t) (sides : Sides (graphOf t) earlier) (long : length t ≤ length row)
     (table : ClassTable (graphOf t) earlier (take (length t) row)) (no-clash : Clash (graphOf t) earlier → ⊥) (room : 2 * length t ≤ length work) where
   at : (x : ℕ) → x < length t → entry (take (length t) row) x ≡ entry row x
   at x h = front-entry (length t) row x h

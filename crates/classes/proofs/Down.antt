@@ -5,13 +5,13 @@
 use mathlib.Core.Path.{_≡_, refl, sym, ap, _∙_, subst}
 use mathlib.Core.Bool.{true, false}
 use mathlib.Core.Logic.{⊎-elim}
-use mathlib.Core.List.{List, [], _∷_, _++_, List·Memᴰ·head, List·Memᴰ·tail, List·Memᴰ·cases-cons}
+use mathlib.Core.List.{List, [], _∷_, _++_, List·Memᴰ·head, List·Memᴰ·tail, List·Memᴰ·cases-cons, Memᴰ·append-right}
 use Prim.Native.Nat.{ℕ, zero, suc, _+_, _-_, _*_, _≤_, _<_}
 use native.Mathlib.Decide.{ℕ-discrete}
 use native.Mathlib.Omega.{arith}
 use Rattle.graphs.specs.Partition.{Pair, _∈_, Same, classes}
 use Rattle.table.specs.Table.{graphOf, degree, childOf}
-use Rattle.classes.specs.Meeting.{Checked, OneSymbol, waitingLeft, waitingRight, State, Within, Agrees, Complete, Moved, Turned, went-on, clashed, Meets, GoesDown, childPairs, Settled, all-joined, clash-met}
+use Rattle.classes.specs.Meeting.{PassedCheck, OneSymbol, waitingLeft, waitingRight, State, Within, Agrees, Complete, Moved, Turned, went-on, clashed, Meets, GoesDown, childPairs, Settled, all-joined, clash-met}
 use Rattle.classes.specs.declared.meet.Turn.{Turn}
 use Rattle.classes.proofs.Symbols.{one-symbol-children}
 use Rattle.classes.proofs.Moves.{moved-none, moved-join, stopped-after, waiting-moved, clash-stops}
@@ -49,12 +49,6 @@ module _ (t : List ℕ) (f g : ℕ) where
       ⊎-elim (λ e. subst P (sym e) (each i (omega arith) (omega arith)))
       (λ r. child-each P (suc i) k rest (λ j l h. each j (omega arith) (omega arith)) others p r)
       (List·Memᴰ·cases-cons m)
-
-  -- and the other pairs stay among them
-  behind : (i k : ℕ) (rest : List Pair) (p : Pair) → p ∈ rest → p ∈ (childPairs t f g i k ++ rest)
-  unfolding childPairs
-  behind i zero rest p m = m
-  behind i (suc k) rest p m = List·Memᴰ·tail (behind (suc i) k rest p m)
 
 -- ---- the meetings one after the other
 
@@ -102,7 +96,7 @@ module _ {t row₀ work₀ : List ℕ} {waiting₀ f g d : ℕ} {row work : List
 
 -- ---- the last waiting pair leaves the work row
 
-module _ {t row work : List ℕ} {waiting : ℕ} (checked : Checked t) (state : State t row work waiting) (some : 0 < waiting) where
+module _ {t row work : List ℕ} {waiting : ℕ} (checked : PassedCheck t) (state : State t row work waiting) (some : 0 < waiting) where
   abbrev f : ℕ
   f = waitingLeft work (waiting - 1)
 
@@ -142,7 +136,7 @@ module _ {t row work : List ℕ} {waiting : ℕ} (checked : Checked t) (state : 
         record {
           links = a .links;
           waiting = λ k i h b. at k i b (ℕ-discrete k (waiting - 1)) h;
-          owed = λ p m. a .owed p (after 0 (degree t f) p m);
+          owed = λ p m. a .owed p (Memᴰ·append-right (childPairs t f g 0 (degree t f)) m);
         }
       where
         at : (k i : ℕ) → i < degree t (waitingLeft work k) → Dec (k ≡ waiting - 1) → k < waiting → q (childOf t (waitingLeft work k) i) ≡ q (childOf t (waitingRight work k) i)
@@ -151,9 +145,6 @@ module _ {t row work : List ℕ} {waiting : ℕ} (checked : Checked t) (state : 
             (a .owed (childPair t f g i) (subst (λ (z : ℕ). childPair t f g z ∈ (childPairs t f g 0 (degree t f) ++ owed)) (let p : 0 + i ≡ i = omega arith in p)
             (child-among t f g 0 (degree t f) i owed (subst (λ (z : ℕ). i < degree t (waitingLeft work z)) e b))))
         at k i b (no d) h = a .waiting k i (omega arith) b
-
-        after : (i k : ℕ) (p : Pair) → p ∈ owed → p ∈ (childPairs t f g i k ++ owed)
-        after i k p m = behind t f g i k owed p m
 
     popped-complete : (done : List Pair) → Complete t done (record { row = row; work = work; waiting = waiting; owed = owed })
         → Complete t done (record { row = row; work = work; waiting = waiting - 1; owed = childPairs t f g 0 (degree t f) ++ owed })
@@ -175,7 +166,7 @@ module _ {t row work : List ℕ} {waiting : ℕ} (checked : Checked t) (state : 
 pub record Settling (t row₀ work₀ : List ℕ) (waiting₀ : ℕ) (row work : List ℕ) (waiting : ℕ) : Type 0 where
   pub moved : (owed : List Pair) → Moved t (record { row = row₀; work = work₀; waiting = waiting₀; owed = owed }) (record { row = row; work = work; waiting = waiting; owed = owed })
 
-module _ {t row₀ work₀ row work row-after work-after : List ℕ} {waiting₀ waiting : ℕ} {turn : Turn} (checked : Checked t) (settling : Settling t row₀ work₀ waiting₀ row work waiting) (some : 0 < waiting)
+module _ {t row₀ work₀ row work row-after work-after : List ℕ} {waiting₀ waiting : ℕ} {turn : Turn} (checked : PassedCheck t) (settling : Settling t row₀ work₀ waiting₀ row work waiting) (some : 0 < waiting)
     (down : GoesDown t row work (waiting - 1) (waitingLeft work (waiting - 1)) (waitingRight work (waiting - 1)) row-after work-after turn) where
   last-popped : (owed : List Pair) → Moved t (record { row = row₀; work = work₀; waiting = waiting₀; owed = owed })
       (record { row = row; work = work; waiting = waiting - 1; owed = childPairs t (waitingLeft work (waiting - 1)) (waitingRight work (waiting - 1)) 0 (degree t (waitingLeft work (waiting - 1))) ++ owed })

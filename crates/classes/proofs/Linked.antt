@@ -19,7 +19,7 @@ use Rattle.graphs.proofs.Certificates.{key-symbol, key-variable}
 use Rattle.graphs.proofs.Classes.{never, nothing-no-node}
 use Rattle.table.specs.Table.{TableSymbols, graphOf, degree, childOf}
 use Rattle.classes.specs.Forest.{Forest}
-use Rattle.classes.specs.Meeting.{Checked, OneSymbol, waitingLeft, waitingRight, State, Config, Within, Agrees, Complete, Moved, Stopped, Meets, Roots, Ordered}
+use Rattle.classes.specs.Meeting.{PassedCheck, OneSymbol, waitingLeft, waitingRight, State, Config, Within, Agrees, Complete, Moved, Stopped, Meets, Roots, Ordered}
 use Rattle.classes.specs.declared.meet.Turn.{Turn}
 use Rattle.classes.proofs.Symbols.{one-symbol-degree, head-of-degree}
 use Rattle.classes.proofs.Heads.{Plain, left-variable, right-variable, constants, DifferentSymbols}
@@ -34,7 +34,7 @@ before-or-after (suc k) (suc w) = ⊎-elim (λ h. inl (omega arith)) (λ h. inr 
 -- ---- keys
 
 -- two nodes of one key are one
-pub key-only : (t : List ℕ) → Checked t → (a b : ℕ) → Node (graphOf t) a → Node (graphOf t) b → key (graphOf t) a ≡ key (graphOf t) b → a ≡ b
+pub key-only : (t : List ℕ) → PassedCheck t → (a b : ℕ) → Node (graphOf t) a → Node (graphOf t) b → key (graphOf t) a ≡ key (graphOf t) b → a ≡ b
 key-only t checked a b na nb e = go na nb (checked .well-formed .inside a na) (checked .well-formed .inside b nb)
   where
     go : Node (graphOf t) a → Node (graphOf t) b → a < length t → b < length t → a ≡ b
@@ -47,7 +47,7 @@ pub turned-about : {t : List ℕ} {f g : ℕ} → OneSymbol t f g → OneSymbol 
 turned-about o =
     record { named = o .named; left-children = o .right-children; right-children = o .left-children; left-head = o .right-head; right-head = o .left-head }
 
-module _ {t row : List ℕ} {name later : ℕ} (checked : Checked t) (o : Ordered t row name later) where
+module _ {t row : List ℕ} {name later : ℕ} (checked : PassedCheck t) (o : Ordered t row name later) where
   -- a name comes first, so where the later has a symbol the name has one too
   name-symbol : {s : TableSymbols .Symbol} {xs : List ℕ} → graphOf t .head later ≡ symbol s xs → graphOf t .head name ≡ variable → ⊥
   name-symbol h v =
@@ -73,7 +73,7 @@ module _ {t row : List ℕ} {name later : ℕ} (checked : Checked t) (o : Ordere
 
 -- ---- the row after
 
-module _ {t row work : List ℕ} {waiting name later : ℕ} (checked : Checked t) (state : State t row work waiting) (o : Ordered t row name later) where
+module _ {t row work : List ℕ} {waiting name later : ℕ} (checked : PassedCheck t) (state : State t row work waiting) (o : Ordered t row name later) where
   later-inside : later < length t
   later-inside = checked .well-formed .inside later (o .later-node)
 
@@ -354,7 +354,7 @@ module _ {t row work : List ℕ} {waiting name later : ℕ} (checked : Checked t
 
 -- ---- two roots in the naming order
 
-module _ {t row : List ℕ} {a b : ℕ} (checked : Checked t) (roots : Roots t row a b) where
+module _ {t row : List ℕ} {a b : ℕ} (checked : PassedCheck t) (roots : Roots t row a b) where
   pub left-first : {k l : ℕ} → k ≡ key (graphOf t) a → l ≡ key (graphOf t) b → k < l → Ordered t row a b
   left-first e f h =
       record { name-node = roots .left-node; later-node = roots .right-node; name-own = roots .left-own; later-own = roots .right-own; lower = omega (arith, e, f) }

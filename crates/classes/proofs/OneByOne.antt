@@ -17,7 +17,7 @@ use Rattle.table.specs.Table.{graphOf}
 use Rattle.table.specs.Faults.{pairsOf, pairAt}
 use Rattle.table.proofs.Pairs.{pairAt-entries}
 use Rattle.classes.specs.Forest.{Forest}
-use Rattle.classes.specs.Meeting.{Checked, State, Within, Agrees, Complete, Settled}
+use Rattle.classes.specs.Meeting.{PassedCheck, State, Within, Agrees, Complete, Settled}
 use Rattle.classes.specs.Lists.{JoinsPair, resting, Holding, JoinedBefore, ClashesAt, EachJoined}
 use Rattle.classes.proofs.Links.{shorter-none, root-exists}
 use Rattle.classes.proofs.Flat.{Flat, flat-none, flat-forest, flat-more, flat-all}
@@ -93,7 +93,7 @@ flat-to {t} {row} forest (suc k) h = go (flat-to forest k (omega arith))
               (flat-more flat (omega arith) (record { inside = r .3; reached = r .1; own = r .2; shorter = shorter-none })),
         )
 
-pub holding-no-clash : {t row work : List ℕ} {pairs : List Pair} → Checked t → Sides (graphOf t) pairs → State t row work 0 → Holding t pairs row work → Clash (graphOf t) pairs → ⊥
+pub holding-no-clash : {t row work : List ℕ} {pairs : List Pair} → PassedCheck t → Sides (graphOf t) pairs → State t row work 0 → Holding t pairs row work → Clash (graphOf t) pairs → ⊥
 holding-no-clash {t} {row} checked sides state holds =
     let f : _ = flat-to (state .forest) (length t) (omega arith) in
     flat-class-table checked sides state (holds .within) (holds .complete) (flat-all (f .1) (omega arith)) .1
@@ -133,7 +133,7 @@ module _ {t list row₀ work₀ row work : List ℕ} {i : ℕ} (so-far : JoinedB
               };
         }
 
-    pub clashes-here : Checked t → Sides (graphOf t) (pairsOf list) → answer ≡ false → ClashesAt t list row₀ work₀ row-after work-after i
+    pub clashes-here : PassedCheck t → Sides (graphOf t) (pairsOf list) → answer ≡ false → ClashesAt t list row₀ work₀ row-after work-after i
     clashes-here checked sides e =
         let s : _ = false-stopped here e in
         record {

@@ -10,13 +10,13 @@ use Rattle.graphs.specs.Partition.{Pair, Sides, Clash, ClassTable}
 use Rattle.table.specs.Table.{graphOf}
 use Rattle.table.specs.Faults.{pairsOf}
 use Rattle.classes.specs.Forest.{Forest, Flattened}
-use Rattle.classes.specs.Meeting.{Checked, State}
+use Rattle.classes.specs.Meeting.{PassedCheck, State}
 use Rattle.classes.specs.Lists.{Holding, JoinedBefore, ClashesAt, EachJoined}
 use Rattle.classes.specs.Joining.{Joinable, CanJoin, JoinOf}
 use Rattle.classes.specs.declared.joining.Joined.{Joined}
 use Rattle.classes.proofs.ClassTables.{flat-class-table, class-table-start}
 
-pub passed-check : {t list class : List ℕ} {earlier : List Pair} {work-room : ℕ} → Joinable t earlier list class work-room → Checked t
+pub passed-check : {t list class : List ℕ} {earlier : List Pair} {work-room : ℕ} → Joinable t earlier list class work-room → PassedCheck t
 passed-check j = record { small = j .small; shaped = j .shaped; well-formed = j .well-formed }
 
 module _ {t list class work : List ℕ} where

@@ -13,7 +13,7 @@ use Rattle.graphs.specs.Graph.{Symbols, Graph, nothing, symbol, Node, symbol-no
 use Rattle.graphs.specs.Partition.{Pair, _∈_, Same, itself, swapped, through, entry, isNode, classes}
 use Rattle.table.specs.Table.{TableSymbols, graphOf, degree, childOf}
 use Rattle.classes.specs.Forest.{Up, here, up, Shorter, Rooted}
-use Rattle.classes.specs.Meeting.{Checked, OneSymbol, State, Config, Within, Agrees, Complete, Moved, Roots}
+use Rattle.classes.specs.Meeting.{PassedCheck, OneSymbol, State, Config, Within, Agrees, Complete, Moved, Roots}
 use Rattle.classes.proofs.Counts.{count-same}
 use Rattle.classes.proofs.Moves.{moved-join}
 use Rattle.classes.proofs.Symbols.{head-of-degree, head-0, one-symbol-degree}
@@ -58,7 +58,7 @@ one-symbol-join {t} {f} {g} {h} one two =
 
 -- ---- along links
 
-module _ {t row work : List ℕ} {waiting : ℕ} (checked : Checked t) (state : State t row work waiting) where
+module _ {t row work : List ℕ} {waiting : ℕ} (checked : PassedCheck t) (state : State t row work waiting) where
   pub up-node : {x y : ℕ} → Node (graphOf t) x → Up row x y → Node (graphOf t) y
   up-node n here = n
   up-node n (up {x} u) = up-node (state .node-up x n) u
@@ -213,7 +213,7 @@ pub two-roots : {t after : List ℕ} {left right a b : ℕ} → FoundRoots t aft
 two-roots f d =
     record { left-node = f .left-node; right-node = f .right-node; left-own = f .left-own; right-own = f .right-own; different = d }
 
-module _ {t row mid after work : List ℕ} {waiting left right a b : ℕ} (checked : Checked t) (state : State t row work waiting)
+module _ {t row mid after work : List ℕ} {waiting left right a b : ℕ} (checked : PassedCheck t) (state : State t row work waiting)
     (first : Rooted t row left a mid) (second : Rooted t mid right b after) (left-node : Node (graphOf t) left) (right-node : Node (graphOf t) right) where
   both-shorter : Shorter t row after
   both-shorter = shorter-join (state .forest) (first .shorter) (second .shorter)

@@ -14,7 +14,7 @@ use Rattle.classes.specs.Forest.{Forest}
 use Rattle.classes.specs.declared.meet.Turn.{Turn}
 
 -- What the steps ask of the table: it passed its check.
-pub record Checked (t : List ℕ) : Type 0 where
+pub record PassedCheck (t : List ℕ) : Type 0 where
   pub small : length t ≤ 4096
   pub shaped : Shaped t
   pub well-formed : WellFormed (graphOf t)

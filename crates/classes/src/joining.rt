@@ -6,7 +6,7 @@ ghost use Rattle.table.specs.Faults.{pairsOf};
 ghost use Rattle.table.specs.Table.{graphOf};
 ghost use Rattle.classes.specs.Joining.{CanJoin, JoinOf};
 ghost use Rattle.classes.specs.Lists.{JoinsPair, EachJoined};
-ghost use Rattle.classes.specs.Meeting.{Checked, State};
+ghost use Rattle.classes.specs.Meeting.{PassedCheck, State};
 use crate::flatten;
 use crate::meet;
 use crate::meet::Turn;
@@ -28,7 +28,7 @@ fn join_pair(
     left: Address,
     right: Address,
 ) -> bool
-    requires { ⌜ Checked (now table) × State (now table) (now class) (now work) 0 × Node (graphOf (now table)) (left .0) × Node (graphOf (now table)) (right .0) ⌝ }
+    requires { ⌜ PassedCheck (now table) × State (now table) (now class) (now work) 0 × Node (graphOf (now table)) (left .0) × Node (graphOf (now table)) (right .0) ⌝ }
     ensures { λ r. ⌜ JoinsPair (now (table .entry)) (now (class .entry)) (now (work .entry)) (left .0) (right .0) (now (class .exit)) (now (work .exit)) r ⌝ }
 {
     let Turn::Waiting(waiting) = meet::meet(table, class, work, 0, left, right) else {
@@ -40,7 +40,7 @@ fn join_pair(
 // Joins the pairs of a list in their order, up to the first clash. Returns its place, from 0, or the
 // number of pairs.
 fn join_each(table: &[u32], list: &[u16], class: &mut [u16], work: &mut [u16]) -> usize
-    requires { ⌜ Checked (now table) × State (now table) (now class) (now work) 0 × Sides (graphOf (now table)) (pairsOf (now list)) ⌝ }
+    requires { ⌜ PassedCheck (now table) × State (now table) (now class) (now work) 0 × Sides (graphOf (now table)) (pairsOf (now list)) ⌝ }
     ensures { λ r. ⌜ EachJoined (now (table .entry)) (now (list .entry)) (now (class .entry)) (now (work .entry)) (now (class .exit)) (now (work .exit)) r ⌝ }
 {
     let pairs = list.len() / 2;

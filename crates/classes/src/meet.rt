@@ -5,7 +5,7 @@ ghost use lib.ListN.{length, set};
 ghost use Rattle.graphs.specs.Graph.{Node};
 ghost use Rattle.graphs.specs.Log.{key as keyIn};
 ghost use Rattle.table.specs.Table.{graphOf, Laid};
-ghost use Rattle.classes.specs.Meeting.{Checked, State, Meets, Ordered, Roots};
+ghost use Rattle.classes.specs.Meeting.{PassedCheck, State, Meets, Ordered, Roots};
 use crate::forest;
 use words::head::Head;
 use words::meeting;
@@ -49,7 +49,7 @@ fn meet_ordered(
     name: Address,
     later: Address,
 ) -> Turn
-    requires { ⌜ Checked (now table) × State (now table) (now class) (now work) waiting × Ordered (now table) (now class) (name .0) (later .0) ⌝ }
+    requires { ⌜ PassedCheck (now table) × State (now table) (now class) (now work) waiting × Ordered (now table) (now class) (name .0) (later .0) ⌝ }
     ensures { λ r. ⌜ Meets (now (table .entry)) (now (class .entry)) (now (work .entry)) waiting (name .0) (later .0) (now (class .exit)) (now (work .exit)) r ⌝ }
 {
     match meeting::meet(table::head(table, name), table::head(table, later)) {
@@ -75,7 +75,7 @@ fn meet_roots(
     a: Address,
     b: Address,
 ) -> Turn
-    requires { ⌜ Checked (now table) × State (now table) (now class) (now work) waiting × Roots (now table) (now class) (a .0) (b .0) ⌝ }
+    requires { ⌜ PassedCheck (now table) × State (now table) (now class) (now work) waiting × Roots (now table) (now class) (a .0) (b .0) ⌝ }
     ensures { λ r. ⌜ Meets (now (table .entry)) (now (class .entry)) (now (work .entry)) waiting (a .0) (b .0) (now (class .exit)) (now (work .exit)) r ⌝ }
 {
     if key(table, a) < key(table, b) {
@@ -93,7 +93,7 @@ pub fn meet(
     left: Address,
     right: Address,
 ) -> Turn
-    requires { ⌜ Checked (now table) × State (now table) (now class) (now work) waiting × Node (graphOf (now table)) (left .0) × Node (graphOf (now table)) (right .0) ⌝ }
+    requires { ⌜ PassedCheck (now table) × State (now table) (now class) (now work) waiting × Node (graphOf (now table)) (left .0) × Node (graphOf (now table)) (right .0) ⌝ }
     ensures { λ r. ⌜ Meets (now (table .entry)) (now (class .entry)) (now (work .entry)) waiting (left .0) (right .0) (now (class .exit)) (now (work .exit)) r ⌝ }
 {
     let a = forest::root(table, class, left);

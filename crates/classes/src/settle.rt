@@ -1,6 +1,6 @@
 // Waiting pairs of functions go down to their children, until none waits.
 ghost use Prim.Native.Nat.{_-_, _<_};
-ghost use Rattle.classes.specs.Meeting.{Checked, OneSymbol, waitingLeft, waitingRight, State, GoesDown, Settles};
+ghost use Rattle.classes.specs.Meeting.{PassedCheck, OneSymbol, waitingLeft, waitingRight, State, GoesDown, Settles};
 use crate::meet;
 use crate::meet::Turn;
 use words::numbers::Address;
@@ -14,7 +14,7 @@ fn go_down(
     f: Address,
     g: Address,
 ) -> Turn
-    requires { ⌜ Checked (now table) × State (now table) (now class) (now work) waiting × OneSymbol (now table) (f .0) (g .0) ⌝ }
+    requires { ⌜ PassedCheck (now table) × State (now table) (now class) (now work) waiting × OneSymbol (now table) (f .0) (g .0) ⌝ }
     ensures { λ r. ⌜ GoesDown (now (table .entry)) (now (class .entry)) (now (work .entry)) waiting (f .0) (g .0) (now (class .exit)) (now (work .exit)) r ⌝ }
 {
     let count = table::degree(table, f);
@@ -34,7 +34,7 @@ fn go_down(
 
 // The last waiting pair goes down.
 fn settle_last(table: &[u32], class: &mut [u16], work: &mut [u16], waiting: usize) -> Turn
-    requires { ⌜ Checked (now table) × State (now table) (now class) (now work) waiting × (0 < waiting) ⌝ }
+    requires { ⌜ PassedCheck (now table) × State (now table) (now class) (now work) waiting × (0 < waiting) ⌝ }
     ensures { λ r. ⌜ GoesDown (now (table .entry)) (now (class .entry)) (now (work .entry)) (waiting - 1) (waitingLeft (now (work .entry)) (waiting - 1)) (waitingRight (now (work .entry)) (waiting - 1)) (now (class .exit)) (now (work .exit)) r ⌝ }
 {
     let last = waiting - 1;
@@ -45,7 +45,7 @@ fn settle_last(table: &[u32], class: &mut [u16], work: &mut [u16], waiting: usiz
 
 // Lets the waiting pairs go down, the last first, until none waits. Returns false if there is a clash.
 pub fn settle(table: &[u32], class: &mut [u16], work: &mut [u16], waiting: usize) -> bool
-    requires { ⌜ Checked (now table) × State (now table) (now class) (now work) waiting ⌝ }
+    requires { ⌜ PassedCheck (now table) × State (now table) (now class) (now work) waiting ⌝ }
     ensures { λ r. ⌜ Settles (now (table .entry)) (now (class .entry)) (now (work .entry)) waiting (now (class .exit)) (now (work .exit)) r ⌝ }
 {
     let mut waits = waiting;
