@@ -10,8 +10,12 @@ use std::path::{Path, PathBuf};
 
 pub mod files;
 pub mod ground;
+pub mod match_reference;
+pub mod matching;
 pub mod names;
+pub mod random;
 pub mod table;
+pub mod table_reference;
 pub mod trace;
 
 /// The root of the repository.

@@ -8,6 +8,20 @@ pub const LAYOUT: u16 = 4;
 pub const POINTER: u16 = 5;
 pub const NAME: u16 = 6;
 pub const LOOP: u16 = 7;
+pub const LIST: u16 = 8;
+pub const ADDRESS: u16 = 9;
+pub const CLASH: u16 = 10;
+pub const CYCLE: u16 = 11;
+
+pub const MOST_WORDS: usize = 4_096;
+pub const MOST_PAIRS: usize = 256;
+
+/// A table whose words behind word 0 are these.
+pub fn words(items: &[u32]) -> Vec<u32> {
+    let mut table = vec![0];
+    table.extend_from_slice(items);
+    table
+}
 
 /// A word is tag x 65,536 + content.
 fn word(tag: u32, content: u16) -> u32 {

@@ -2,11 +2,9 @@
 
 use station_tests::ground;
 use station_tests::table::{
-    argument_count, constant, function, pointer, variable, ACCEPTED, LAYOUT, LOOP, NAME, POINTER,
-    ROOM, SIZE, WORD,
+    argument_count, constant, function, pointer, variable, words, ACCEPTED, LAYOUT, LOOP,
+    MOST_WORDS, NAME, POINTER, ROOM, SIZE, WORD,
 };
-
-const MOST_WORDS: usize = 4_096;
 
 /// What stood in a buffer before: no entry of it may count.
 const OLD: u16 = 0xabcd;
@@ -37,13 +35,6 @@ fn check_with(table: &[u32], class_room: usize, work_room: usize) -> (u16, u16) 
         );
     }
     (answer, place)
-}
-
-/// A table whose words behind word 0 are these.
-fn words(items: &[u32]) -> Vec<u32> {
-    let mut table = vec![0];
-    table.extend_from_slice(items);
-    table
 }
 
 #[test]

@@ -2,6 +2,7 @@
 //! shares nothing with it.
 
 use station_tests::ground;
+use station_tests::random::Numbers;
 
 /// The table of tags as document 01 prints it, in the order of the kinds' numbers.
 const TAGS: [&str; 5] = ["10000", "10010", "10011", "10100", "11000"];
@@ -28,18 +29,6 @@ fn assert_word(word: u32) {
     assert_eq!(found, (kind(word), content(word)), "word {word:#010x}");
 }
 
-/// Numbers that look random and are the same in every run (xorshift, 64 bits).
-struct Numbers(u64);
-
-impl Numbers {
-    fn next(&mut self) -> u32 {
-        self.0 ^= self.0 << 13;
-        self.0 ^= self.0 >> 7;
-        self.0 ^= self.0 << 17;
-        (self.0 >> 32) as u32
-    }
-}
-
 #[test]
 fn every_number_of_21_bits() {
     (0..1 << 21).for_each(assert_word);
@@ -47,9 +36,9 @@ fn every_number_of_21_bits() {
 
 #[test]
 fn a_million_numbers_of_32_bits() {
-    let mut numbers = Numbers(0x5eed_0000_0000_0001);
+    let mut numbers = Numbers::new(0x5eed_0000_0000_0001);
     for _ in 0..1_000_000 {
-        assert_word(numbers.next());
+        assert_word(numbers.number());
     }
 }
 

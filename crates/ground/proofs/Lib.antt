@@ -1,1 +1,2 @@
 pub mod OneCheck
+pub mod OneMatch

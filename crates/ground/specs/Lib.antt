@@ -1,2 +1,3 @@
 pub mod Ground
+pub mod Lists
 pub mod Tables

@@ -1,5 +1,6 @@
-// What `words` says of one word and of two heads, and the table check, in plain numbers, for tests in
-// another language to call.
+// What `words` says of one word and of two heads, the table check and the match, in plain numbers, for
+// tests in another language to call.
+pub mod lists;
 pub mod tables;
 
 ghost use mathlib.Core.Path.{_≡_};

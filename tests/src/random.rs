@@ -1,0 +1,40 @@
+//! Numbers that look random and are the same in every run (xorshift, 64 bits).
+
+pub struct Numbers(u64);
+
+impl Numbers {
+    /// The numbers of a seed. Seed 0 would give zeros only.
+    pub fn new(seed: u64) -> Numbers {
+        assert_ne!(seed, 0);
+        Numbers(seed)
+    }
+
+    pub fn number(&mut self) -> u32 {
+        self.0 ^= self.0 << 13;
+        self.0 ^= self.0 >> 7;
+        self.0 ^= self.0 << 17;
+        (self.0 >> 32) as u32
+    }
+
+    /// A number below the bound.
+    pub fn below(&mut self, bound: usize) -> usize {
+        self.number() as usize % bound
+    }
+
+    /// True once in so many times.
+    pub fn one_in(&mut self, times: usize) -> bool {
+        self.below(times) == 0
+    }
+
+    /// A row of entries of a buffer.
+    pub fn entries(&mut self, length: usize) -> Vec<u16> {
+        (0..length).map(|_| self.number() as u16).collect()
+    }
+
+    /// The items in another order.
+    pub fn shuffle<T>(&mut self, items: &mut [T]) {
+        for i in (1..items.len()).rev() {
+            items.swap(i, self.below(i + 1));
+        }
+    }
+}
