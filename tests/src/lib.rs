@@ -10,10 +10,12 @@ use std::path::{Path, PathBuf};
 
 pub mod files;
 pub mod ground;
+pub mod independent;
 pub mod match_reference;
 pub mod matching;
 pub mod names;
 pub mod random;
+pub mod station;
 pub mod table;
 pub mod table_reference;
 pub mod trace;

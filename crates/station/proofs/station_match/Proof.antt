@@ -1,0 +1,49 @@
+-- `station::station_match` meets its contract.
+-- Assumes nothing.
+use borrow.Author.Needs.{needs}
+use Rattle.station.proofs.ChoiceLaws.{choice-refused, choice-found, refused-early}
+use Rattle.station.proofs.station_match.Statement.{statement}
+use Rattle.station.proofs.station_match.Tie as tie
+
+choose-requires : tie.Need-choose-requires
+choose-requires c κs = search needs
+
+enum-known-number : tie.Need-enum-known-number
+enum-known-number c = search needs
+
+enum-known-n : tie.Need-enum-known-n
+enum-known-n c = search needs
+
+match-found-requires : tie.Need-match-found-requires
+match-found-requires c κs =
+    let s : tie.Start = search needs in
+    let k : tie.After-choose = search needs in
+    choice-found (s .args .file .now) (s .args .job) (s .args .room .now) (k .choose .ensures) (c .before .before .n .given .1)
+
+same-length : tie.Need-same-length
+same-length c = search needs
+
+returns : tie.Need-returns
+returns c =
+    let s : tie.Start = search needs in
+    let k : tie.After-choose = search needs in
+    refused-early (s .args .file .now) (s .args .job) (s .args .room .now) (choice-refused (s .args .file .now) (s .args .job) (s .args .room .now) (k .choose .ensures) (c .before .number .given .1))
+
+same-length-2 : tie.Need-same-length-2
+same-length-2 c = search needs
+
+returns-2 : tie.Need-returns-2
+returns-2 c = search needs
+
+pub station-match-spec : {M : Type 1} → statement M
+station-match-spec =
+    tie.close
+    (tie.spec
+    choose-requires
+    enum-known-number
+    enum-known-n
+    match-found-requires
+    same-length
+    returns
+    same-length-2
+    returns-2)

@@ -1,0 +1,109 @@
+/* station.h: the rule station, for a host program in C or C++.
+ *
+ * A table of words holds terms; a list of pairs of addresses asks whether the paired terms can be made
+ * equal, and by which bindings. This is first-order unification over finite terms. The functions are
+ * proved: they end, stay inside what they are lent, and give the answers of document 01
+ * (docs/document-01.md). docs/HOST.md leads through a first host program; examples/host.c is one.
+ *
+ * What the host owes
+ * ------------------
+ * - No pointer is null, also where its length is 0.
+ * - Each pointer is aligned for its type and leads to as many entries as its length says.
+ * - Lent buffers do not overlap one another, nor the table, the list or the file.
+ * - One call at a time on one set of buffers.
+ * - A dark frame is good for 48 hours. The station knows no clock: the host takes older frames out
+ *   before it sends a list.
+ */
+#ifndef STATION_H
+#define STATION_H
+
+#include <stddef.h>
+#include <stdint.h>
+
+#ifdef __cplusplus
+extern "C" {
+#endif
+
+/* ---- answers ----
+ *
+ * Every call gives one of these numbers. The place says where: an address of the table for 3 to 6, the
+ * number of a pair from 1 for 9 to 11, the number of an entry of the contents from 1 for 14, else 0.
+ */
+enum station_answer {
+    STATION_ACCEPTED = 0,
+    STATION_SIZE = 1,      /* the table has 0 words, or over 4,096 */
+    STATION_ROOM = 2,      /* a lent buffer is too short */
+    STATION_WORD = 3,      /* a word is none: tag, high bits, or a count of 0 or over 255 */
+    STATION_LAYOUT = 4,    /* the row of items breaks */
+    STATION_POINTER = 5,   /* a pointer names no node */
+    STATION_NAME = 6,      /* a variable's label stood earlier */
+    STATION_LOOP = 7,      /* a node reaches itself through children */
+    STATION_LIST = 8,      /* an odd number of entries, or over 512 */
+    STATION_ADDRESS = 9,   /* a side of a pair is not the address of a node */
+    STATION_CLASH = 10,    /* the list up to this pair has two different symbols in one class */
+    STATION_CYCLE = 11,    /* the list up to this pair binds a variable to a term that holds it */
+    STATION_FILE = 12,     /* the file has under 2 bytes, or over 32,768 */
+    STATION_CONTENTS = 13, /* 0 jobs or over 64, or the contents pass the end */
+    STATION_BODY = 14,     /* a wrong offset, a body past the end, or bytes after the last */
+    STATION_JOB = 15       /* the file has no job of this number */
+};
+
+/* ---- words ----
+ *
+ * A word is tag x 65,536 + content. Word 0 of a table is the number 0. A function word is followed by a
+ * count word and that many argument words, each a variable, a constant or a pointer.
+ */
+#define STATION_VARIABLE(label) ((uint32_t)16 << 16 | (uint16_t)(label))
+#define STATION_CONSTANT(label) ((uint32_t)18 << 16 | (uint16_t)(label))
+#define STATION_FUNCTION(label) ((uint32_t)19 << 16 | (uint16_t)(label))
+#define STATION_POINTER_TO(address) ((uint32_t)20 << 16 | (uint16_t)(address))
+#define STATION_COUNT(arguments) ((uint32_t)24 << 16 | (uint16_t)(arguments))
+
+/* ---- one job of a job file ----
+ *
+ * Matches the job of a number, from 1. The answers 12, 13, 14, 15, 1 and 2 write nothing; they are
+ * looked for in this order, and 2 means that the room is under 6 + 2n bytes for a table of n words.
+ * Any other answer leaves in the room, 2 bytes each and the low byte first: answer, place, joins, and
+ * the n class entries, which are 0 if the answer is not 0. Later bytes of the room stay as they were.
+ *
+ * The class entry of a node is the address that names its class: what a variable is bound to. The
+ * entries of other words are 0.
+ */
+uint16_t station_match(const uint8_t *file, size_t file_len, uint32_t job,
+                       uint8_t *room, size_t room_len);
+
+/* ---- a table and a list, on lent buffers ----
+ *
+ * The list is left, right, left, right. The class buffer needs n entries and the work buffer 4n, else
+ * the answer is 2. What they held does not count. The answers 1 and 2 change nothing; any other leaves
+ * the first 4n work entries at 0, and the first n class entries at 0 or, if the answer is 0, at the
+ * class table. Later entries stay.
+ */
+uint64_t station_lent(const uint32_t *table, size_t n, const uint16_t *list, size_t entries,
+                      uint16_t *classes, size_t class_len, uint16_t *work, size_t work_len);
+
+/* The table check alone: 0 to 7 by the same rules. On 0, too, the entries in use are 0. */
+uint64_t station_check(const uint32_t *table, size_t n,
+                       uint16_t *classes, size_t class_len, uint16_t *work, size_t work_len);
+
+/* What station_lent and station_check return holds three numbers. Its top 16 bits are reserved; they are
+ * 0 today. */
+#define STATION_ANSWER_OF(result) ((uint16_t)((result) & 65535u))
+#define STATION_PLACE_OF(result) ((uint16_t)((result) >> 16 & 65535u))
+#define STATION_JOINS_OF(result) ((uint16_t)((result) >> 32 & 65535u))
+
+/* ---- a job file ----
+ *
+ * Writes the file of these sizes (n, p, n, p, ..) and bodies, end to end, into the room. A body is n
+ * words of 4 bytes and p pairs of 4 bytes, the low byte first. The answers 13 (an odd row of sizes, or
+ * not 1 to 64 jobs), 14 (the bodies' length is not the sum), 12 (the file would pass 32,768 bytes) and 2
+ * (the room is short) are looked for in this order and write nothing. Bytes after the file stay.
+ */
+uint16_t station_write(const uint16_t *sizes, size_t sizes_len, const uint8_t *bodies, size_t bodies_len,
+                       uint8_t *room, size_t room_len);
+
+#ifdef __cplusplus
+}
+#endif
+
+#endif

@@ -1,0 +1,75 @@
+//! Ways in which a good job becomes one to refuse, or nearly.
+
+use crate::random::Numbers;
+use crate::table::{argument_count, constant, function, pointer, variable};
+
+/// One word changes, comes in or goes; or two words change places.
+pub fn table(numbers: &mut Numbers, table: &mut Vec<u32>) {
+    let n = table.len();
+    let at = numbers.below(n);
+    match numbers.below(8) {
+        0 if n > 1 => table.truncate(1 + numbers.below(n - 1)),
+        1 => table.insert(at, any_word(numbers, n)),
+        2 if n > 1 => {
+            table.remove(at);
+        }
+        3 => table.swap(at, numbers.below(n)),
+        4 => another_content(numbers, table),
+        5 => shared_label(numbers, table),
+        6 => table[at] ^= 1 << numbers.below(32),
+        _ => table[at] = any_word(numbers, n),
+    }
+}
+
+fn any_word(numbers: &mut Numbers, n: usize) -> u32 {
+    let small = numbers.below(n + 2) as u16;
+    let all = [
+        variable(small),
+        constant(small),
+        function(small),
+        pointer(small),
+        argument_count(small),
+        argument_count(256),
+        numbers.number(),
+        numbers.number() % 0x20_0000,
+        0,
+    ];
+    all[numbers.below(all.len())]
+}
+
+/// A pointer that may lead back, or a count that may be of no block's length.
+fn another_content(numbers: &mut Numbers, table: &mut [u32]) {
+    let n = table.len();
+    let may_change = |&x: &usize| [20, 24].contains(&(table[x] >> 16));
+    let changed: Vec<usize> = (1..n).filter(may_change).collect();
+    if !changed.is_empty() {
+        let at = changed[numbers.below(changed.len())];
+        table[at] = match table[at] >> 16 {
+            20 => pointer(numbers.below(n + 2) as u16),
+            _ => argument_count(numbers.below(5) as u16),
+        };
+    }
+}
+
+/// Two variables with one label; a constant or function may have it too, which is no fault.
+fn shared_label(numbers: &mut Numbers, table: &mut [u32]) {
+    let variables: Vec<usize> = (1..table.len()).filter(|&x| table[x] >> 16 == 16).collect();
+    if !variables.is_empty() {
+        let [from, to] = [0; 2].map(|_| variables[numbers.below(variables.len())]);
+        table[to] = table[from];
+    }
+}
+
+/// A side, the number of entries, or both.
+pub fn list(numbers: &mut Numbers, list: &mut Vec<u16>, n: usize) {
+    let any = numbers.below(n + 2) as u16;
+    match numbers.below(6) {
+        0 => list.push(any),
+        1 => *list = vec![1; 511 + numbers.below(4)],
+        _ if list.is_empty() => list.extend([any, any]),
+        kind => {
+            let at = numbers.below(list.len());
+            list[at] = [any, any, 0, 65_535][kind - 2];
+        }
+    }
+}

@@ -1,0 +1,19 @@
+//! A second judge of jobs, written from the textbook and from document 01 alone, to be compared with
+//! the proved match. It shares no code and no idea with it: terms are trees, the unifier is Robinson's,
+//! and what document 01 defines on nodes is computed by the plainest means there are.
+
+pub mod damage;
+pub mod faults;
+pub mod graph;
+pub mod jobs;
+pub mod judge;
+pub mod lists;
+pub mod partition;
+pub mod replacement;
+pub mod robinson;
+pub mod tables;
+pub mod terms;
+
+/// The most symbols that the terms of a job may have, unfolded and resolved. Shared subterms make terms
+/// of a few words as large as one likes, so a job beyond it is judged by its partition alone.
+pub const MOST_SYMBOLS: usize = 10_000;
