@@ -7,71 +7,14 @@ use std::process::{Command, Stdio};
 use station_tests::files::{
     bodies, body, pairs, read, words, write, BODY, CONTENTS, FILE, GOOD, MOST_BYTES, PLACES, ROOM,
 };
+use station_tests::jobs::{bodies_of, examples, file_of, sizes_of, Job};
 use station_tests::repository;
-use station_tests::table::{argument_count, constant, function, pointer, variable};
-
-/// A job as a test has it: the table's words, and the list's addresses, two a pair.
-type Job = (Vec<u32>, Vec<u16>);
-
-/// The two jobs of document 01, examples A and B.
-fn examples() -> Vec<Job> {
-    let a = vec![
-        0,
-        function(1),
-        argument_count(3),
-        variable(1),
-        variable(2),
-        pointer(6),
-        function(2),
-        argument_count(1),
-        pointer(3),
-        function(1),
-        argument_count(3),
-        constant(3),
-        pointer(14),
-        pointer(4),
-        function(2),
-        argument_count(1),
-        variable(3),
-    ];
-    let b = vec![0, function(1), argument_count(1), variable(1)];
-    vec![(a, vec![1, 9]), (b, vec![1, 3])]
-}
 
 /// So many jobs of one word and one pair each.
 fn small(count: usize) -> Vec<Job> {
     (0..count)
         .map(|k| (vec![k as u32], vec![k as u16, 7]))
         .collect()
-}
-
-fn sizes_of(jobs: &[Job]) -> Vec<u16> {
-    jobs.iter()
-        .flat_map(|(w, p)| [w.len() as u16, (p.len() / 2) as u16])
-        .collect()
-}
-
-fn bodies_of(jobs: &[Job]) -> Vec<u8> {
-    let mut bytes = Vec::new();
-    for (words, pairs) in jobs {
-        bytes.extend(words.iter().flat_map(|w| w.to_le_bytes()));
-        bytes.extend(pairs.iter().flat_map(|a| a.to_le_bytes()));
-    }
-    bytes
-}
-
-/// A file by the words of document 01, made without the writer.
-fn file_of(jobs: &[Job]) -> Vec<u8> {
-    let mut bytes = (jobs.len() as u16).to_le_bytes().to_vec();
-    let mut start = 2 + 6 * jobs.len();
-    for (words, pairs) in jobs {
-        for number in [start, words.len(), pairs.len() / 2] {
-            bytes.extend((number as u16).to_le_bytes());
-        }
-        start += 4 * words.len() + 2 * pairs.len();
-    }
-    bytes.extend(bodies_of(jobs));
-    bytes
 }
 
 /// One job whose body fills a file of this size; 4 divides size - 8.

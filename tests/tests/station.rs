@@ -3,6 +3,8 @@
 
 use station_tests::files::{BODY, CONTENTS, FILE};
 use station_tests::ground;
+use station_tests::jobs::{bodies_of, examples, file_of, sizes_of, Job};
+use station_tests::matching::{example_a, example_b, example_c};
 use station_tests::station::{
     check, match_job, match_lent, write, ADDRESS, CLASH, CYCLE, JOB, LIST,
 };
@@ -11,9 +13,6 @@ use station_tests::table::{
     ROOM, SIZE, WORD,
 };
 
-/// A job as a test has it: the table's words, and the list's addresses, two a pair.
-type Job = (Vec<u32>, Vec<u16>);
-
 /// What stood in a row before: none of it may count.
 const OLD: u16 = 0xabcd;
 const OLD_BYTE: u8 = 0xee;
@@ -21,71 +20,7 @@ const OLD_BYTE: u8 = 0xee;
 /// How many bytes of the room come after the report in these tests.
 const LATER: usize = 5;
 
-fn example_a() -> Vec<u32> {
-    vec![
-        0,
-        function(1),
-        argument_count(3),
-        variable(1),
-        variable(2),
-        pointer(6),
-        function(2),
-        argument_count(1),
-        pointer(3),
-        function(1),
-        argument_count(3),
-        constant(3),
-        pointer(14),
-        pointer(4),
-        function(2),
-        argument_count(1),
-        variable(3),
-    ]
-}
-
-fn example_b() -> Vec<u32> {
-    vec![0, function(1), argument_count(1), variable(1)]
-}
-
-fn example_c() -> Vec<u32> {
-    vec![0, constant(1), constant(2), variable(1)]
-}
-
 const CLASSES_A: [u16; 17] = [0, 1, 0, 11, 6, 0, 6, 0, 0, 1, 0, 11, 0, 0, 6, 0, 11];
-
-/// The two jobs of document 01.
-fn examples() -> Vec<Job> {
-    vec![(example_a(), vec![1, 9]), (example_b(), vec![1, 3])]
-}
-
-fn sizes_of(jobs: &[Job]) -> Vec<u16> {
-    jobs.iter()
-        .flat_map(|(words, pairs)| [words.len() as u16, (pairs.len() / 2) as u16])
-        .collect()
-}
-
-fn bodies_of(jobs: &[Job]) -> Vec<u8> {
-    let mut bytes = Vec::new();
-    for (words, pairs) in jobs {
-        bytes.extend(words.iter().flat_map(|w| w.to_le_bytes()));
-        bytes.extend(pairs.iter().flat_map(|a| a.to_le_bytes()));
-    }
-    bytes
-}
-
-/// A file by the words of document 01, made without the writer.
-fn file_of(jobs: &[Job]) -> Vec<u8> {
-    let mut bytes = (jobs.len() as u16).to_le_bytes().to_vec();
-    let mut start = 2 + 6 * jobs.len();
-    for (words, pairs) in jobs {
-        for number in [start, words.len(), pairs.len() / 2] {
-            bytes.extend((number as u16).to_le_bytes());
-        }
-        start += 4 * words.len() + 2 * pairs.len();
-    }
-    bytes.extend(bodies_of(jobs));
-    bytes
-}
 
 /// The bytes of a report.
 fn report(answer: u16, place: u16, joins: u16, classes: &[u16]) -> Vec<u8> {

@@ -1,0 +1,39 @@
+//! Jobs and the files that hold them, made by the words of document 01 and without the writer.
+
+use crate::matching::{example_a, example_b};
+
+/// A job as a test has it: the table's words, and the list's addresses, two a pair.
+pub type Job = (Vec<u32>, Vec<u16>);
+
+/// The two jobs of document 01: example A with the pair (1,9), and example B with the pair (1,3).
+pub fn examples() -> Vec<Job> {
+    vec![(example_a(), vec![1, 9]), (example_b(), vec![1, 3])]
+}
+
+pub fn sizes_of(jobs: &[Job]) -> Vec<u16> {
+    jobs.iter()
+        .flat_map(|(words, pairs)| [words.len() as u16, (pairs.len() / 2) as u16])
+        .collect()
+}
+
+pub fn bodies_of(jobs: &[Job]) -> Vec<u8> {
+    let mut bytes = Vec::new();
+    for (words, pairs) in jobs {
+        bytes.extend(words.iter().flat_map(|w| w.to_le_bytes()));
+        bytes.extend(pairs.iter().flat_map(|a| a.to_le_bytes()));
+    }
+    bytes
+}
+
+pub fn file_of(jobs: &[Job]) -> Vec<u8> {
+    let mut bytes = (jobs.len() as u16).to_le_bytes().to_vec();
+    let mut start = 2 + 6 * jobs.len();
+    for (words, pairs) in jobs {
+        for number in [start, words.len(), pairs.len() / 2] {
+            bytes.extend((number as u16).to_le_bytes());
+        }
+        start += 4 * words.len() + 2 * pairs.len();
+    }
+    bytes.extend(bodies_of(jobs));
+    bytes
+}
