@@ -21,7 +21,11 @@ fn built(compiler: &str, options: &[&str], name: &str) -> PathBuf {
         .arg(&program)
         .output()
         .expect("the compiler is there");
-    assert!(output.status.success(), "{}", String::from_utf8_lossy(&output.stderr));
+    assert!(
+        output.status.success(),
+        "{}",
+        String::from_utf8_lossy(&output.stderr)
+    );
     program
 }
 
@@ -31,7 +35,11 @@ fn expected() -> String {
 
 fn printed(command: &mut Command) -> String {
     let output = command.output().expect("it runs");
-    assert!(output.status.success(), "{}", String::from_utf8_lossy(&output.stderr));
+    assert!(
+        output.status.success(),
+        "{}",
+        String::from_utf8_lossy(&output.stderr)
+    );
     String::from_utf8(output.stdout).expect("it prints text")
 }
 
@@ -52,6 +60,8 @@ fn as_cpp() {
 fn under_valgrind() {
     let program = built("gcc", &["-std=c11", "-g"], "host-valgrind");
     let mut command = Command::new("valgrind");
-    command.args(["--quiet", "--error-exitcode=9", "--track-origins=yes"]).arg(program);
+    command
+        .args(["--quiet", "--error-exitcode=9", "--track-origins=yes"])
+        .arg(program);
     assert_eq!(printed(&mut command), expected());
 }
