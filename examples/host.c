@@ -8,8 +8,8 @@
 #include <stdio.h>
 #include <string.h>
 
-/* A run with its sensor and temperature, and two dark frames: f(sensor, degrees). The run's frame is
- * yet to be found: the variable 1 stands for it. */
+/* A run and two dark frames, each f(sensor, degrees). The degrees of the run are left open: the variable 1
+ * stands for them, and the frame that goes with the run tells what they are. */
 static const uint32_t frames[] = {
     0,
     STATION_FUNCTION(1), STATION_COUNT(2), STATION_CONSTANT(7), STATION_VARIABLE(1), /* 1: run of sensor 7 */

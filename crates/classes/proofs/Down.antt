@@ -1,7 +1,7 @@
 -- Two functions with one symbol go down: their children meet place by place.
 --
 -- In order: the pairs of children (`child-pairs-next`); the meetings one after the other (`Going`); the last waiting pair
--- leaves the work row (`popped`). Assumes nothing.
+-- leaves the work row (`popped`); until none waits (`Settling`). Assumes nothing.
 use mathlib.Core.Path.{_≡_, refl, sym, ap, _∙_, subst}
 use mathlib.Core.Bool.{true, false}
 use mathlib.Core.Logic.{⊎-elim}

@@ -1,7 +1,7 @@
 -- What a meeting of two heads says of the nodes that they stand at.
 --
--- In order: what stands at a node, in words and in the graph (`see`); the three outcomes (`clash-heads`, `joined-heads`,
--- `go-down-heads`). Assumes nothing.
+-- In order: what stands at a node, in words and in the graph (`see`); its place in the naming order
+-- (`key-at`); what each outcome says (`said`). Assumes nothing.
 use mathlib.Core.Path.{_≡_, refl, sym, ap, ap₂, _∙_, subst}
 use mathlib.Core.Bool.{Bool, true, false, cond}
 use mathlib.Core.List.{List, []}

@@ -1,7 +1,7 @@
 -- Two roots are joined: the later in the naming order hangs under the earlier.
 --
 -- In order: keys; the row after; the state; nothing is joined without a ground; nothing is forgotten; with no pair more
--- waiting (`joined-moved`), and with one (`pushed-moved`). Assumes nothing.
+-- waiting (`joined-moved`), and with one (`pushed-moved`); a clash (`clash-stopped`); either of two roots first. Assumes nothing.
 use mathlib.Core.Path.{_≡_, refl, sym, ap, _∙_, subst}
 use mathlib.Core.Bool.{_&&_}
 use mathlib.Core.Logic.{_⊎_, inl, inr, ⊎-elim}

@@ -1,7 +1,7 @@
 -- The first pairs of a list, joined from each node its own class.
 --
--- In order: rows after a step; no pairs; a join of the first k pairs (`joins-first`); where they have no clash
--- (`all-partitioned`); up to the first clash. Assumes nothing.
+-- In order: rows after a step (`standing-after`); a join of the first k pairs (`joins-first`); where they have no clash
+-- (`all-partitioned`); up to the first clash (`until-end`, `until-clash`). Assumes nothing.
 use mathlib.Core.Path.{_≡_, refl, sym, ap, _∙_, subst}
 use mathlib.Core.List.{List, [], _∷_, _++_, List·Memᴰ·not-nil}
 use Prim.Native.Nat.{ℕ, zero, suc, _+_, _*_, _≤_, _<_}

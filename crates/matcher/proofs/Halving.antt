@@ -1,6 +1,7 @@
--- The first cycle: what one search tells, and the search by halving.
+-- The first cycle: what one search tells, and the search by halving; and the verdicts 0, 10 and 11.
 --
--- In order: a search of the row (`searched`); halves (`Halved`); the answers of a match. Assumes nothing.
+-- In order: a search of the row (`row-tells`, `tells-cycle`); halves (`Halved`); the verdicts (`cycle-verdict`, `clash-verdict`,
+-- `accepted-verdict`). Assumes nothing.
 use mathlib.Core.Path.{_≡_, refl, sym, ap, _∙_, subst}
 use mathlib.Core.Bool.{Bool, true, false, _&&_}
 use mathlib.Core.Logic.{inl, inr}
