@@ -1,19 +1,33 @@
 # The ways to run things. `make` alone lists them.
-.PHONY: help host test check fmt clean FORCE
+.PHONY: help list test check host install fmt clean
+
+PREFIX ?= /usr/local
+JOB ?= examples/two-jobs.job
 
 help:
-	@echo 'make host    prove the station, build the host program in C with it, and run that'
-	@echo 'make test    the gate: layout, every proof from nothing, the tests'
-	@echo 'make check   prove every crate that changed since it was last proved'
-	@echo 'make fmt     put every file of Rattle and antt into the layout'
-	@echo 'make clean   remove all that was built'
+	@echo 'make list JOB=examples/two-jobs.job   prove and build the listing program, and list a job file'
+	@echo 'make host                             build the host program in C and run it'
+	@echo 'make test                             the gate: layout, every proof from nothing, the tests'
+	@echo 'make check                            prove every crate that changed since it was last proved'
+	@echo 'make install PREFIX=/usr/local        header, library, pkg-config file, listing program, manual page'
+	@echo 'make fmt                              put every file of Rattle and antt into the layout'
+	@echo 'make clean                            remove all that was built'
 
-# rt names each crate as it proves it; that takes some minutes from nothing, and later what changed.
+# rt names each crate as it proves it, some minutes from nothing; a second time it proves what changed.
+target/bin/listing: FORCE
+	@rt check listing | sed -n 's/^rt: //p' >&2
+
 target/staticlib/libstation.a: FORCE
 	@rt staticlib station | sed -n 's/^rt: //p' >&2
 
+.PHONY: FORCE
+FORCE:
+
+list: target/bin/listing
+	@target/bin/listing <$(JOB)
+
 target/host: examples/host.c include/station.h target/staticlib/libstation.a
-	@$(CC) -std=c11 -O2 -Wall -Wextra -Iinclude examples/host.c target/staticlib/libstation.a -o $@
+	$(CC) -std=c11 -O2 -Wall -Wextra -Iinclude examples/host.c target/staticlib/libstation.a -o $@
 
 host: target/host
 	@target/host
@@ -23,6 +37,14 @@ test:
 
 check:
 	rt check
+
+install: target/bin/listing target/staticlib/libstation.a
+	install -d $(DESTDIR)$(PREFIX)/include $(DESTDIR)$(PREFIX)/lib/pkgconfig $(DESTDIR)$(PREFIX)/bin $(DESTDIR)$(PREFIX)/share/man/man1
+	install -m 644 include/station.h $(DESTDIR)$(PREFIX)/include/station.h
+	install -m 644 target/staticlib/libstation.a $(DESTDIR)$(PREFIX)/lib/libstation.a
+	sed 's|@PREFIX@|$(PREFIX)|' packaging/station.pc.in >$(DESTDIR)$(PREFIX)/lib/pkgconfig/station.pc
+	install -m 755 target/bin/listing $(DESTDIR)$(PREFIX)/bin/station-listing
+	install -m 644 packaging/station-listing.1 $(DESTDIR)$(PREFIX)/share/man/man1/station-listing.1
 
 fmt:
 	rt fmt

@@ -7,13 +7,15 @@ use jobfile::answers::FileAnswer;
 use libc::STDIN_FILENO;
 use libc::STDOUT_FILENO;
 
-// Prints `file`, the answer and the place of a refusal, parted by one space.
+// Prints `file`, the answer and the place of a refusal.
 fn print_refusal(answer: FileAnswer) {
-    io::write_all(STDOUT_FILENO, b"file ");
-    io::print_decimal(STDOUT_FILENO, answers::file_number(answer) as u64);
-    io::write_all(STDOUT_FILENO, b" ");
-    io::print_decimal(STDOUT_FILENO, answers::file_place(answer) as u64);
-    io::write_all(STDOUT_FILENO, b"\n");
+    let mut line = [0u8; 24];
+    let size = lines::file_line(
+        answers::file_number(answer),
+        answers::file_place(answer),
+        &mut line,
+    );
+    io::write_all(STDOUT_FILENO, &line[..size]);
 }
 
 // Writes what was written again of a file of so many bytes, or the line of its refusal.

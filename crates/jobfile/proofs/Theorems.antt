@@ -5,7 +5,7 @@
 --     writer-writes-good         the writer writes only good files, with the sizes and bodies that it was sent
 --     good-read-written-again    a good file read and written again has the same bytes
 --     jobs-written, jobs-read-back    jobs written to a file are read back as the same jobs: sizes, words and pairs
---     job-words, job-pairs       what is taken out of a job's body are that job's words and pairs
+--     body-size, job-body, job-words, job-pairs    how long a job's body is, and that what is taken out of it are that job's words and pairs
 --     read-sizes, read-count, read-length    which sizes count, that they are at most 128, and how long their row is
 --
 -- Two results that a public contract allows are equal: `read-only`, `bodies-only` and `body-only` (ReaderLaws.antt), `write-only`
@@ -121,14 +121,14 @@ jobs-read-back {jobs} h r =
 -- ---- a job taken out of its body
 
 module _ {bytes part : List ℕ} (good : GoodFile bytes) (k : ℕ) (there : k < countIn bytes) (b : BodyOf bytes (suc k) part) (d : FileJob) where
-  body-size : length part ≡ bodySize (wordsIn bytes k) (pairsIn bytes k)
+  pub body-size : length part ≡ bodySize (wordsIn bytes k) (pairsIn bytes k)
   body-size =
       let inside : bodySize (wordsIn bytes k) (pairsIn bytes k) ≤ length (drop (bodyStart bytes k) bytes) =
       simp length-drop (omega (arith, next-start bytes k refl refl refl, body-inside good k there)) in
       ap length (good-body good there b) ∙ length-take-le (bodySize (wordsIn bytes k) (pairsIn bytes k)) (drop (bodyStart bytes k) bytes) inside
 
   -- job k of the file, by its own body
-  job-body : getD (jobsIn bytes) k d ≡ jobIn (wordsIn bytes k) (pairsIn bytes k) (drop (bodyStart bytes k) bytes)
+  pub job-body : getD (jobsIn bytes) k d ≡ jobIn (wordsIn bytes k) (pairsIn bytes k) (drop (bodyStart bytes k) bytes)
   unfolding bodyStart
   job-body =
       let way : 0 + k ≡ k = omega arith in

@@ -1,0 +1,137 @@
+-- Jobs of a file, in rows of their own lengths. In order:
+--     what is copied and matched    part-size, words-loaded, entries-loaded, job-matched
+--     lengths                       job-room, entry-sizes
+--     the answers                   good-listed, accepted-room: what is known once an answer is 0
+--     one result                    job-only: two results that the contract of match_job allows are equal
+-- Assumes nothing.
+use mathlib.Core.Path.{_≡_, refl, sym, ap, _∙_, subst}
+use mathlib.Core.Logic.{inl, inr}
+use mathlib.Core.List.{List, []}
+use Prim.Native.Nat.{ℕ, suc, _+_, _-_, _*_, _/_, _≤_, _<_}
+use native.Mathlib.Decide.{decLe}
+use native.Mathlib.Numerals.{add-one}
+use native.Mathlib.Omega.{arith}
+use lib.ListN.{length, take, drop, getD, length-drop}
+use lib.Seq.{take-all}
+use Rattle.table.specs.Answers.{Answered}
+use Rattle.table.specs.Faults.{Fault, size-fault, room-fault, number, matchOrder}
+use Rattle.matcher.specs.Match.{numberOf, placeOf, jobOf, MatchOf}
+use Rattle.matcher.specs.declared.answer.Matched.{Matched}
+use Rattle.matcher.proofs.OneMatch.{match-only}
+use Rattle.jobfile.specs.File.{countIn, wordsIn, pairsIn, bodyStart, sizesIn, GoodFile}
+use Rattle.jobfile.specs.Numbers.{rowIn}
+use Rattle.jobfile.specs.Body.{taken}
+use Rattle.jobfile.specs.Jobs.{FileJob, entriesOf}
+use Rattle.jobfile.specs.Reader.{ReadOf, BodyOf, numberOf as fileNumber}
+use Rattle.jobfile.specs.declared.answers.FileAnswer.{FileAnswer}
+use Rattle.jobfile.specs.declared.answers.FileAnswer.the-variants.{Good, File, Contents, Body}
+use Rattle.jobfile.specs.declared.sizes.Sizes.{Sizes}
+use Rattle.jobfile.proofs.NumberLaws.{length-rowIn}
+use Rattle.jobfile.proofs.FileLaws.{length-sizesFrom, words-there, pairs-there, next-start}
+use Rattle.jobfile.proofs.JobLaws.{entries-pairs}
+use Rattle.jobfile.proofs.ReaderLaws.{body-inside}
+use Rattle.jobfile.proofs.Theorems.{reader-accepts-good, good-sizes, body-size, job-body, job-words, job-pairs}
+use Rattle.listing.specs.Listing.{Entered, jobAt, JobMatched}
+
+-- ---- what is copied and matched
+
+abbrev none : FileJob
+none = record { words = []; pairs = [] }
+
+module _ {file part : List ℕ} {k : ℕ} (entered : Entered file k) (body : BodyOf file (k + 1) part) where
+  numbered : BodyOf file (suc k) part
+  numbered = subst (λ (j : ℕ). BodyOf file j part) (add-one k) body
+
+  pub part-size : length part ≡ 4 * wordsIn file k + 4 * pairsIn file k
+  part-size = body-size (entered .0) k (entered .1) numbered none
+
+  pub words-loaded : (row : List ℕ) {after : List ℕ} → length row ≡ wordsIn file k → after ≡ taken 4 part row → after ≡ jobAt file k .words
+  words-loaded row size e =
+      let job : FileJob = jobAt file k in
+      let long : length (job .words) ≡ wordsIn file k = ap (λ (j : FileJob). length (j .words)) (job-body (entered .0) k (entered .1) numbered none) ∙ length-rowIn 4 (wordsIn file k) (drop (bodyStart file k) file) in
+      e ∙ job-words (entered .0) k (entered .1) numbered none row (omega arith) ∙ take-all (length row) (job .words) (omega arith)
+
+  pub entries-loaded : {n : ℕ} (row : List ℕ) {after : List ℕ} → n ≡ wordsIn file k → length row ≡ 2 * pairsIn file k → after ≡ taken 2 (take (length part - 4 * n) (drop (4 * n) part)) row → after ≡ entriesOf (jobAt file k .pairs)
+  entries-loaded {n} row here size e =
+      let job : FileJob = jobAt file k in
+      let p : ℕ = pairsIn file k in
+      let bytes : List ℕ = drop (4 * wordsIn file k) (drop (bodyStart file k) file) in
+      let long : length (entriesOf (job .pairs)) ≡ 2 * p =
+      ap (λ (j : FileJob). length (entriesOf (j .pairs))) (job-body (entered .0) k (entered .1) numbered none)
+      ∙ ap length (entries-pairs p (rowIn 2 (2 * p) bytes) (length-rowIn 2 (2 * p) bytes))
+      ∙ length-rowIn 2 (2 * p) bytes in
+      let rest : length (drop (4 * n) part) ≤ length part - 4 * n = simp length-drop (omega arith) in
+      e
+      ∙ ap (λ (l : List ℕ). taken 2 l row) (take-all (length part - 4 * n) (drop (4 * n) part) rest)
+      ∙ ap (λ (i : ℕ). taken 2 (drop (4 * i) part) row) here
+      ∙ job-pairs (entered .0) k (entered .1) numbered none row (omega arith)
+      ∙ take-all (length row) (entriesOf (job .pairs)) (omega arith)
+
+pub job-matched : {file table list class work class-after work-after : List ℕ} {k : ℕ} {answer : Matched} → table ≡ jobAt file k .words → list ≡ entriesOf (jobAt file k .pairs)
+    → MatchOf table list class work answer class-after work-after → JobMatched file k class work answer table list class-after work-after
+job-matched {file} {table} {list} {class} {work} {class-after} {work-after} {k} {answer} w e m = record {
+  words = w;
+  entries = e;
+  matched = subst (λ (l : List ℕ). MatchOf (jobAt file k .words) l class work answer class-after work-after) e (subst (λ (l : List ℕ). MatchOf l list class work answer class-after work-after) w m);
+}
+
+-- a file has at most 32,768 bytes
+pub job-room : {file : List ℕ} {k : ℕ} → Entered file k → (wordsIn file k ≤ 8192) × (2 * pairsIn file k ≤ 16384)
+job-room {file} {k} (good, there) =
+    let fits : 4 * wordsIn file k + 4 * pairsIn file k ≤ 32768 =
+    omega (arith, next-start file k {start = bodyStart file k} {n = wordsIn file k} {p = pairsIn file k} refl refl refl, body-inside good k there, good .at-most) in
+    (omega arith, omega arith)
+
+-- the sizes of an entry, in the row of sizes
+pub entry-sizes : {file sizes : List ℕ} {k : ℕ} → GoodFile file → sizes ≡ sizesIn file → k < length sizes / 2
+    → Entered file k × (getD sizes (2 * k) 0 ≡ wordsIn file k) × (getD sizes (2 * k + 1) 0 ≡ pairsIn file k)
+entry-sizes {file} {sizes} {k} good e h =
+    let there : k < countIn file = omega (arith, ap length e, length-sizesFrom (countIn file) 0 file) in
+    let way : 0 + k ≡ k = omega arith in (
+      (good, there),
+      ap (λ (l : List ℕ). getD l (2 * k) 0) e ∙ words-there (countIn file) 0 k file there ∙ ap (wordsIn file) way,
+      ap (λ (l : List ℕ). getD l (2 * k + 1) 0) e ∙ pairs-there (countIn file) 0 k file there ∙ ap (pairsIn file) way,
+    )
+
+-- ---- the answers
+
+good-number : (answer : FileAnswer) → fileNumber answer ≡ 0 → answer ≡ Good
+good-number Good e = refl
+good-number File e = absurd (omega arith)
+good-number Contents e = absurd (omega arith)
+good-number (Body entry) e = absurd (omega arith)
+
+-- a file that is not refused is good, and its sizes are in the row
+pub good-listed : {file : List ℕ} {answer : FileAnswer} {sizes : Sizes} → ReadOf file answer sizes → fileNumber answer ≡ 0
+    → GoodFile file × (take (sizes .count) (sizes .row) ≡ sizesIn file)
+good-listed {answer = answer} read e =
+    let good = reader-accepts-good read .0 (good-number answer e) in (good, good-sizes good read)
+
+room-of : (t list class work : List ℕ) (answer place : ℕ) → answer ≡ 0 → Answered number (Fault (jobOf t list class work)) matchOrder answer place
+    → (length t ≤ 4096) × (length t ≤ length class)
+unfolding number
+room-of t list class work answer place z (inl (e, x)) = absurd (omega (arith, e, z))
+room-of t list class work answer place z (inr (f, inl (e, x))) = absurd (omega (arith, e, z))
+room-of t list class work answer place z (inr (f, inr (g, rest))) = (small (decLe (length t) 4096), enough (decLe (length t) (length class)))
+  where
+    small : Dec (length t ≤ 4096) → length t ≤ 4096
+    small (yes h) = h
+    small (no h) = absurd (f 0 (size-fault (inr (omega (arith, h)))))
+
+    enough : Dec (length t ≤ length class) → length t ≤ length class
+    enough (yes h) = h
+    enough (no h) = absurd (g 0 (room-fault (inl (omega (arith, h)))))
+
+-- a table that is accepted has room in the class row
+pub accepted-room : {file class work table list class-after work-after : List ℕ} {k : ℕ} {answer : Matched} → JobMatched file k class work answer table list class-after work-after → numberOf answer ≡ 0
+    → (length table ≤ 4096) × (length table ≤ length class)
+accepted-room {file} {class} {work} {k = k} {answer} m z =
+    let room = room-of (jobAt file k .words) (entriesOf (jobAt file k .pairs)) class work (numberOf answer) (placeOf answer) z (m .matched .answered) in
+    (omega (arith, room .0, ap length (m .words)), omega (arith, room .1, ap length (m .words)))
+
+-- ---- one result
+
+pub job-only : {file class work table₁ list₁ class₁ work₁ table₂ list₂ class₂ work₂ : List ℕ} {k : ℕ} {r s : Matched} → JobMatched file k class work r table₁ list₁ class₁ work₁
+    → JobMatched file k class work s table₂ list₂ class₂ work₂ → (r ≡ s) × (table₁ ≡ table₂) × (list₁ ≡ list₂) × (class₁ ≡ class₂) × (work₁ ≡ work₂)
+job-only a b =
+    let same = match-only (a .matched) (b .matched) in (same .0, a .words ∙ sym (b .words), a .entries ∙ sym (b .entries), same .1, same .2)
