@@ -35,7 +35,7 @@ use Rattle.matcher.specs.Stages.{ClearTo, Ready, asMatched}
 -- ---- rows that do not apply
 
 -- the rows of an order have numbers up to k
-abbrev Low : ℕ → List Row → Type 0
+abbrev pub Low : ℕ → List Row → Type 0
 Low k [] = 0 ≤ k
 Low k (row ∷ rows) = (number row ≤ k) × Low k rows
 
@@ -51,12 +51,12 @@ list-low : Low 8 (checkOrder ++ (LIST ∷ []))
 unfolding number
 list-low = (omega arith, (omega arith, (omega arith, (omega arith, (omega arith, (omega arith, (omega arith, (omega arith, omega arith))))))))
 
-side-low : Low 9 (checkOrder ++ (LIST ∷ ADDRESS ∷ []))
+pub side-low : Low 9 (checkOrder ++ (LIST ∷ ADDRESS ∷ []))
 unfolding number
 side-low = (omega arith, (omega arith, (omega arith, (omega arith, (omega arith, (omega arith, (omega arith, (omega arith, (omega arith, omega arith)))))))))
 
 -- Where no row to k applies, the rows behind them answer.
-clear-first : {job : Job} {k : ℕ} → ClearTo k job → (rows rest : List Row) (a p : ℕ) → Low k rows → Answered number (Fault job) rest a p → Answered number (Fault job) (rows ++ rest) a p
+pub clear-first : {job : Job} {k : ℕ} → ClearTo k job → (rows rest : List Row) (a p : ℕ) → Low k rows → Answered number (Fault job) rest a p → Answered number (Fault job) (rows ++ rest) a p
 clear-first clear [] rest a p low later = later
 clear-first clear (row ∷ rows) rest a p low later = inr (λ q. clear row q (low .0), clear-first clear rows rest a p (low .1) later)
 

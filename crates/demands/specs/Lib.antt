@@ -1,0 +1,2 @@
+-- When a job of a file passes all checks.
+pub mod HostPasses
