@@ -1,6 +1,8 @@
 # The ways to run things. `make` alone lists them.
-.PHONY: help list test check host install fmt clean
+.PHONY: help list host test check install fmt clean FORCE
 
+# A proof that fails is not to be hidden by the grep behind it.
+SHELL := /bin/bash -o pipefail
 PREFIX ?= /usr/local
 JOB ?= examples/two-jobs.job
 
@@ -14,20 +16,18 @@ help:
 	@echo 'make clean                            remove all that was built'
 
 # rt names each crate as it proves it, some minutes from nothing; a second time it proves what changed.
+# What it says of each function is left out, and its errors are not.
 target/bin/listing: FORCE
-	@rt check listing | sed -n 's/^rt: //p' >&2
+	@rt check listing 2>&1 | grep -Ev --line-buffered '^(fn|enum|struct|library|logic|linked|axioms|note)' >&2
 
 target/staticlib/libstation.a: FORCE
-	@rt staticlib station | sed -n 's/^rt: //p' >&2
-
-.PHONY: FORCE
-FORCE:
+	@rt staticlib station >&2
 
 list: target/bin/listing
 	@target/bin/listing <$(JOB)
 
 target/host: examples/host.c include/station.h target/staticlib/libstation.a
-	$(CC) -std=c11 -O2 -Wall -Wextra -Iinclude examples/host.c target/staticlib/libstation.a -o $@
+	@$(CC) -std=c11 -O2 -Wall -Wextra -Iinclude examples/host.c target/staticlib/libstation.a -o $@
 
 host: target/host
 	@target/host

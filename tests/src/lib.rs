@@ -15,6 +15,7 @@ pub mod jobs;
 pub mod match_reference;
 pub mod matching;
 pub mod names;
+pub mod programs;
 pub mod random;
 pub mod station;
 pub mod table;

@@ -1,34 +1,30 @@
 //! examples/README.md says what each job file prints. Here each is listed by the program and compared.
 
-use station_tests::repository;
+use station_tests::programs::listing;
+use station_tests::{read, repository};
 use std::fs;
-use std::process::{Command, Stdio};
 
 /// The job files that the page has a heading for, each with the block of text under it.
 fn told() -> Vec<(String, String)> {
-    let page = fs::read_to_string(repository().join("examples/README.md")).expect("the page is there");
+    let page = read("examples/README.md");
     let mut told = Vec::new();
     for part in page.split("\n## ").skip(1) {
         let name = part.lines().next().unwrap_or("").to_string();
-        let block = part.split("```\n").nth(1).expect("a block stands under each heading");
+        let block = part
+            .split("```\n")
+            .nth(1)
+            .expect("a block stands under each heading");
         told.push((name, block.to_string()));
     }
     told
 }
 
-fn listing(name: &str) -> String {
-    let file = fs::File::open(repository().join("examples").join(name)).expect("the job file is there");
-    let output = Command::new(repository().join("target/bin/listing"))
-        .stdin(Stdio::from(file))
-        .output()
-        .expect("target/bin/listing is there: `rt check listing` makes it");
-    String::from_utf8(output.stdout).expect("it writes text")
-}
-
 #[test]
 fn each_file_prints_what_the_page_says() {
     for (name, block) in told() {
-        assert_eq!(listing(&name), block, "{name}");
+        let path = repository().join("examples").join(&name);
+        let file = fs::read(path).expect("the job file is there");
+        assert_eq!(listing(&file), block, "{name}");
     }
 }
 
@@ -36,7 +32,13 @@ fn each_file_prints_what_the_page_says() {
 fn each_file_is_on_the_page() {
     let mut files: Vec<String> = fs::read_dir(repository().join("examples"))
         .expect("the folder is there")
-        .map(|entry| entry.expect("it can be read").file_name().into_string().expect("names are text"))
+        .map(|entry| {
+            entry
+                .expect("it can be read")
+                .file_name()
+                .into_string()
+                .expect("names are text")
+        })
         .filter(|name| name.ends_with(".job"))
         .collect();
     files.sort();

@@ -1,14 +1,11 @@
 //! The job file: each refusal of the reader and of the writer at its edge and one past it, the places,
 //! files read and written again, and a comparison with a second reader on many damaged files.
 
-use std::io::Write;
-use std::process::{Command, Stdio};
-
 use station_tests::files::{
     bodies, body, pairs, read, words, write, BODY, CONTENTS, FILE, GOOD, MOST_BYTES, PLACES, ROOM,
 };
 use station_tests::jobs::{bodies_of, examples, file_of, sizes_of, Job};
-use station_tests::repository;
+use station_tests::programs::written_by;
 
 /// So many jobs of one word and one pair each.
 fn small(count: usize) -> Vec<Job> {
@@ -326,17 +323,9 @@ fn damaged_files() {
     assert!((5_000..15_000).contains(&good), "{good} good files");
 }
 
-/// What the program `again` writes for a file; `rt check again` makes it.
+/// What the program `again` writes for a file.
 fn again(file: &[u8]) -> Vec<u8> {
-    let mut child = Command::new(repository().join("target/bin/again"))
-        .stdin(Stdio::piped())
-        .stdout(Stdio::piped())
-        .spawn()
-        .expect("target/bin/again is there: `rt check again` makes it");
-    let mut input = child.stdin.take().expect("its input is piped");
-    input.write_all(file).expect("it reads its input");
-    drop(input);
-    child.wait_with_output().expect("it ends").stdout
+    written_by("again", file)
 }
 
 #[test]

@@ -1,50 +1,10 @@
 //! The program `listing`: the lines that it prints for job files, good and refused.
 
-use std::io::Write;
-use std::process::{Command, Stdio};
-
 use station_tests::files::MOST_BYTES;
-use station_tests::matching::{constants, example_a, example_b, example_c};
-use station_tests::repository;
+use station_tests::jobs::{examples, file_of, Job};
+use station_tests::matching::{constants, example_a, example_c};
+use station_tests::programs::listing;
 use station_tests::table::{variable, words, MOST_WORDS};
-
-/// A job as a test has it: the table's words, and the pairs.
-type Job = (Vec<u32>, Vec<(u16, u16)>);
-
-/// A file by the words of document 01.
-fn file_of(jobs: &[Job]) -> Vec<u8> {
-    let mut file = (jobs.len() as u16).to_le_bytes().to_vec();
-    let mut start = 2 + 6 * jobs.len();
-    for (table, pairs) in jobs {
-        for number in [start, table.len(), pairs.len()] {
-            file.extend((number as u16).to_le_bytes());
-        }
-        start += 4 * table.len() + 4 * pairs.len();
-    }
-    for (table, pairs) in jobs {
-        file.extend(table.iter().flat_map(|word| word.to_le_bytes()));
-        for (left, right) in pairs {
-            file.extend(left.to_le_bytes());
-            file.extend(right.to_le_bytes());
-        }
-    }
-    file
-}
-
-/// What the program prints for a file; `rt check listing` makes it.
-fn listing(file: &[u8]) -> String {
-    let mut child = Command::new(repository().join("target/bin/listing"))
-        .stdin(Stdio::piped())
-        .stdout(Stdio::piped())
-        .spawn()
-        .expect("target/bin/listing is there: `rt check listing` makes it");
-    let mut input = child.stdin.take().expect("its input is piped");
-    input.write_all(file).expect("it reads its input");
-    drop(input);
-    let output = child.wait_with_output().expect("it ends");
-    assert!(output.status.success(), "{}", output.status);
-    String::from_utf8(output.stdout).expect("it prints text")
-}
 
 /// The listing of a good file: the header, then these lines.
 fn good(lines: &[&str]) -> String {
@@ -58,7 +18,7 @@ fn good(lines: &[&str]) -> String {
 
 #[test]
 fn the_file_of_document_01() {
-    let file = file_of(&[(example_a(), vec![(1, 9)]), (example_b(), vec![(1, 3)])]);
+    let file = file_of(&examples());
     assert_eq!(file.len(), 106);
     let printed = "job answer place joins\n\
                    1 0 0 5\n\
@@ -75,7 +35,7 @@ fn refused_files() {
     assert_eq!(listing(b"\x01"), "file 12 0\n");
     assert_eq!(listing(b"\0\0"), "file 13 0\n");
     assert_eq!(listing(b"\x41\0"), "file 13 0\n");
-    let file = file_of(&[(example_a(), vec![(1, 9)]), (example_b(), vec![(1, 3)])]);
+    let file = file_of(&examples());
     assert_eq!(listing(&file[..13]), "file 13 0\n");
     assert_eq!(listing(&file[..14]), "file 14 1\n");
     assert_eq!(listing(&file[..105]), "file 14 2\n");
@@ -91,11 +51,11 @@ fn refused_files() {
 fn no_words_and_too_many() {
     let many = vec![0; MOST_WORDS + 1];
     let file = file_of(&[
-        (example_a(), vec![(1, 9)]),
+        (example_a(), vec![1, 9]),
         (vec![], vec![]),
         (many, vec![]),
-        (vec![], vec![(1, 1)]),
-        (example_c(), vec![(3, 1)]),
+        (vec![], vec![1, 1]),
+        (example_c(), vec![3, 1]),
     ]);
     let lines = [
         "1 0 0 5",
@@ -116,11 +76,11 @@ fn limits_of_words_and_pairs() {
     let most = constants(MOST_WORDS);
     assert_eq!(listing(&file_of(&[(most, vec![])])), good(&["1 0 0 0"]));
     let file = file_of(&[
-        (example_c(), vec![(3, 1); 256]),
-        (example_c(), vec![(3, 1); 257]),
-        (example_c(), vec![(3, 1); 5_000]),
-        (vec![], vec![(3, 1); 257]),
-        (vec![1], vec![(3, 1); 257]),
+        (example_c(), [3, 1].repeat(256)),
+        (example_c(), [3, 1].repeat(257)),
+        (example_c(), [3, 1].repeat(5_000)),
+        (vec![], [3, 1].repeat(257)),
+        (vec![1], [3, 1].repeat(257)),
     ]);
     let lines = [
         "1 0 0 1", "v 3 1 1", "2 8 0 0", "3 8 0 0", "4 1 0 0", "5 3 0 0",
@@ -132,8 +92,8 @@ fn limits_of_words_and_pairs() {
 fn accepted_jobs_with_no_variables() {
     let file = file_of(&[
         (vec![0], vec![]),
-        (constants(4), vec![(2, 2)]),
-        (vec![0], vec![(0, 0)]),
+        (constants(4), vec![2, 2]),
+        (vec![0], vec![0, 0]),
     ]);
     assert_eq!(listing(&file), good(&["1 0 0 0", "2 0 0 0", "3 9 1 0"]));
 }
@@ -142,9 +102,9 @@ fn accepted_jobs_with_no_variables() {
 fn refusals_at_places() {
     let c = example_c();
     let file = file_of(&[
-        (c.clone(), vec![(3, 1), (3, 2)]),
-        (c.clone(), vec![(1, 2)]),
-        (c, vec![(1, 2), (0, 1)]),
+        (c.clone(), vec![3, 1, 3, 2]),
+        (c.clone(), vec![1, 2]),
+        (c, vec![1, 2, 0, 1]),
         (vec![0, 0], vec![]),
         (words(&[variable(7), variable(7)]), vec![]),
     ]);
@@ -156,13 +116,13 @@ fn refusals_at_places() {
 fn large_labels() {
     let table = words(&[variable(65_535), variable(0), variable(10)]);
     let lines = ["1 0 0 1", "v 1 65535 1", "v 2 0 2", "v 3 10 1"];
-    assert_eq!(listing(&file_of(&[(table, vec![(3, 1)])])), good(&lines));
+    assert_eq!(listing(&file_of(&[(table, vec![3, 1])])), good(&lines));
 }
 
 #[test]
 fn sixty_four_jobs() {
     let jobs: Vec<Job> = (0..64)
-        .map(|k| (words(&[variable(k), variable(k + 1_000)]), vec![(1, 2)]))
+        .map(|k| (words(&[variable(k), variable(k + 1_000)]), vec![1, 2]))
         .collect();
     let mut lines = Vec::new();
     for k in 0..64 {
@@ -185,7 +145,7 @@ fn variables_in_every_word() {
     }));
     let lines: Vec<&str> = lines.iter().map(String::as_str).collect();
     assert_eq!(
-        listing(&file_of(&[(words(&items), vec![(4_095, 1)])])),
+        listing(&file_of(&[(words(&items), vec![4_095, 1])])),
         good(&lines)
     );
 }
@@ -195,7 +155,7 @@ fn sizes_of_files() {
     let full = file_of(&[(vec![0; (MOST_BYTES - 8) / 4], vec![])]);
     assert_eq!(full.len(), MOST_BYTES);
     assert_eq!(listing(&full), good(&["1 1 0 0"]));
-    let pairs = file_of(&[(vec![0], vec![(1, 1); (MOST_BYTES - 12) / 4])]);
+    let pairs = file_of(&[(vec![0], [1, 1].repeat((MOST_BYTES - 12) / 4))]);
     assert_eq!(pairs.len(), MOST_BYTES);
     assert_eq!(listing(&pairs), good(&["1 8 0 0"]));
     let mut over = full;
