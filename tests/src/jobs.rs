@@ -26,14 +26,20 @@ pub fn bodies_of(jobs: &[Job]) -> Vec<u8> {
 }
 
 pub fn file_of(jobs: &[Job]) -> Vec<u8> {
-    let mut bytes = (jobs.len() as u16).to_le_bytes().to_vec();
-    let mut start = 2 + 6 * jobs.len();
-    for (words, pairs) in jobs {
-        for number in [start, words.len(), pairs.len() / 2] {
-            bytes.extend((number as u16).to_le_bytes());
+    file_from(&sizes_of(jobs), &bodies_of(jobs))
+}
+
+/// The file of these sizes and bodies, whether or not they can be one.
+pub fn file_from(sizes: &[u16], bodies: &[u8]) -> Vec<u8> {
+    let jobs = sizes.len() / 2;
+    let mut bytes = (jobs as u16).to_le_bytes().to_vec();
+    let mut start = 2 + 6 * jobs;
+    for entry in sizes.chunks_exact(2) {
+        for number in [start as u16, entry[0], entry[1]] {
+            bytes.extend(number.to_le_bytes());
         }
-        start += 4 * words.len() + 2 * pairs.len();
+        start += 4 * usize::from(entry[0]) + 4 * usize::from(entry[1]);
     }
-    bytes.extend(bodies_of(jobs));
+    bytes.extend(bodies);
     bytes
 }

@@ -8,6 +8,7 @@
 use std::fs;
 use std::path::{Path, PathBuf};
 
+pub mod checking;
 pub mod files;
 pub mod ground;
 pub mod independent;

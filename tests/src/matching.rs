@@ -1,8 +1,8 @@
 //! A match as the tests ask for it: on buffers full of old contents, which are looked at afterwards;
 //! and the example tables of document 01.
 
-use crate::ground;
 use crate::random::Numbers;
+use crate::station;
 use crate::table::{
     argument_count, constant, function, pointer, variable, words, ACCEPTED, ROOM, SIZE,
 };
@@ -66,7 +66,7 @@ pub fn matched_in(table: &[u32], list: &[u16], class_room: usize, work_room: usi
 /// What the match gives on these buffers; and that it leaves them as document 01 says.
 pub fn matched_on(table: &[u32], list: &[u16], class: &mut [u16], work: &mut [u16]) -> Given {
     let (old_class, old_work) = (class.to_vec(), work.to_vec());
-    let (answer, place, joins) = ground::match_list(table, list, class, work);
+    let (answer, place, joins) = station::match_lent(table, list, class, work);
     let unchanged = answer == SIZE || answer == ROOM;
     let n = if unchanged { 0 } else { table.len() };
     assert!(work[..4 * n].iter().all(|&e| e == 0), "work entries in use");

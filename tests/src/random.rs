@@ -9,6 +9,15 @@ impl Numbers {
         Numbers(seed)
     }
 
+    /// The numbers of one part of a run, the same whatever the other parts do. Seeds and parts that
+    /// are near each other have numbers that are not alike (splitmix, 64 bits).
+    pub fn of_part(seed: u64, part: u64) -> Numbers {
+        let mut mixed = seed.wrapping_add(part.wrapping_mul(0x9e37_79b9_7f4a_7c15));
+        mixed = (mixed ^ mixed >> 30).wrapping_mul(0xbf58_476d_1ce4_e5b9);
+        mixed = (mixed ^ mixed >> 27).wrapping_mul(0x94d0_49bb_1331_11eb);
+        Numbers::new((mixed ^ mixed >> 31).max(1))
+    }
+
     pub fn number(&mut self) -> u32 {
         self.0 ^= self.0 << 13;
         self.0 ^= self.0 >> 7;
@@ -29,6 +38,11 @@ impl Numbers {
     /// A row of entries of a buffer.
     pub fn entries(&mut self, length: usize) -> Vec<u16> {
         (0..length).map(|_| self.number() as u16).collect()
+    }
+
+    /// A row of bytes.
+    pub fn bytes(&mut self, length: usize) -> Vec<u8> {
+        (0..length).map(|_| self.number() as u8).collect()
     }
 
     /// The items in another order.

@@ -39,10 +39,6 @@ mod exported {
     }
 }
 
-pub const LIST: u16 = 8;
-pub const ADDRESS: u16 = 9;
-pub const CLASH: u16 = 10;
-pub const CYCLE: u16 = 11;
 pub const JOB: u16 = 15;
 
 /// Answer, place and joins out of one number, whose top 16 bits are 0.

@@ -1,6 +1,6 @@
 //! The table check: each refusal at its edge and one past it, the traps, and the lent buffers.
 
-use station_tests::ground;
+use station_tests::checking::checked_on;
 use station_tests::table::{
     argument_count, constant, function, pointer, variable, words, ACCEPTED, LAYOUT, LOOP,
     MOST_WORDS, NAME, POINTER, ROOM, SIZE, WORD,
@@ -18,23 +18,7 @@ fn check(table: &[u32]) -> (u16, u16) {
 fn check_with(table: &[u32], class_room: usize, work_room: usize) -> (u16, u16) {
     let mut class = vec![OLD; class_room];
     let mut work = vec![OLD; work_room];
-    let (answer, place) = ground::check(table, &mut class, &mut work);
-    let in_use = if answer == SIZE || answer == ROOM {
-        0
-    } else {
-        table.len()
-    };
-    for (name, row, zeros) in [("class", &class, in_use), ("work", &work, 4 * in_use)] {
-        assert!(
-            row[..zeros].iter().all(|&e| e == 0),
-            "{name} entries in use"
-        );
-        assert!(
-            row[zeros..].iter().all(|&e| e == OLD),
-            "{name} entries above"
-        );
-    }
-    (answer, place)
+    checked_on(table, &mut class, &mut work)
 }
 
 #[test]

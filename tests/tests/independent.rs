@@ -1,110 +1,71 @@
-//! The proved match against an independent unifier, on many random jobs.
+//! The station's entries against an independent judge with a unifier of its own, on many random jobs.
+//!
+//! STATION_JOBS says how many, and STATION_SEED from which seed; `make soak` runs millions.
 
-use station_tests::independent::jobs::{job, Job};
+use station_tests::independent::compare::compare;
 use station_tests::independent::judge::{judge, wrong_as_replacement, Trees};
-use station_tests::independent::robinson::Obstacle;
+use station_tests::independent::seen::Seen;
 use station_tests::independent::terms::{Replacement, TooLarge};
-use station_tests::matching::{
-    accepted, example_a, example_b, example_c, matched_on, refused, Given,
-};
-use station_tests::random::Numbers;
+use station_tests::matching::{accepted, example_a, example_b, example_c, refused, Given};
 use station_tests::table::{
-    argument_count, constant, function, pointer, variable, words, ACCEPTED, ADDRESS, CLASH, CYCLE,
-    LOOP,
+    argument_count, constant, function, pointer, variable, words, ADDRESS, CLASH, CYCLE, LOOP,
 };
 use std::panic::resume_unwind;
-use std::thread;
+use std::thread::{self, JoinHandle};
+use std::{env, time};
 
 const SEED: u64 = 0x0b1d_5eed_1965_0023;
-const JOBS: usize = 40_000;
+const JOBS: u64 = 200_000;
+
+/// A number from the environment, by tens or by sixteens.
+fn setting(name: &str, otherwise: u64) -> u64 {
+    let text = match env::var(name) {
+        Ok(text) => text,
+        Err(_) => return otherwise,
+    };
+    let number = match text.strip_prefix("0x") {
+        Some(digits) => u64::from_str_radix(digits, 16),
+        None => text.parse(),
+    };
+    number.unwrap_or_else(|_| panic!("{name} is no number: {text}"))
+}
 
 /// Runs on a stack of 256 MiB: terms may be as deep as they are large, and what goes over them calls
 /// itself.
-fn on_a_large_stack<T: Send + 'static>(run: impl FnOnce() -> T + Send + 'static) -> T {
+fn on_a_large_stack<T: Send + 'static>(run: impl FnOnce() -> T + Send + 'static) -> JoinHandle<T> {
     let thread = thread::Builder::new().stack_size(256 << 20).spawn(run);
-    let ended = thread.expect("a thread").join();
-    ended.unwrap_or_else(|panic| resume_unwind(panic))
+    thread.expect("a thread")
 }
 
-/// What came up, so that a run shows what it compared.
-#[derive(Debug, Default)]
-struct Seen {
-    answers: [usize; 12],
-    unified_as_trees: usize,
-    too_large_for_trees: usize,
-    answers_applied: usize,
-    clash_where_trees_met_an_occurrence_first: usize,
-    accepted_with_pairs: [usize; 4],
-    refused_at_pair: [usize; 4],
-    joins: usize,
-    most_joins: u16,
-    most_words: usize,
-}
-
-/// Of 0 or 1, up to 5, up to 20, and more.
-fn range(number: usize) -> usize {
-    [1, 5, 20].iter().filter(|&&end| number > end).count()
-}
-
-impl Seen {
-    fn count(&mut self, job: &Job, given: &Given, trees: &Trees) {
-        self.answers[usize::from(given.answer)] += 1;
-        match trees {
-            Trees::NotAsked => {}
-            Trees::TooLarge => self.too_large_for_trees += 1,
-            Trees::Unified(_) => self.unified_as_trees += 1,
-            Trees::Apart(obstacle) => {
-                self.unified_as_trees += 1;
-                if *obstacle == Obstacle::Occurs && given.answer == CLASH {
-                    self.clash_where_trees_met_an_occurrence_first += 1;
-                }
-            }
-        }
-        if given.answer == ACCEPTED {
-            self.accepted_with_pairs[range(job.list.len() / 2)] += 1;
-            self.most_words = self.most_words.max(job.table.len());
-        }
-        if given.answer == CLASH || given.answer == CYCLE {
-            self.refused_at_pair[range(usize::from(given.place))] += 1;
-        }
-        self.joins += usize::from(given.joins);
-        self.most_joins = self.most_joins.max(given.joins);
-    }
-}
-
-fn compare(numbers: &mut Numbers, number: usize, seen: &mut Seen) {
-    let job = job(numbers);
-    let said = || format!("job {number}: {:x?} {:?}", job.table, job.list);
-    let mut class = numbers.entries(job.class_room);
-    let mut work = numbers.entries(job.work_room);
-    let given = matched_on(&job.table, &job.list, &mut class, &mut work);
-    let (wanted, trees) = judge(&job.table, &job.list, job.class_room, job.work_room);
-    assert_eq!(given, wanted, "{}", said());
-    if let Trees::Unified(unifier) = &trees {
-        match wrong_as_replacement(&job.table, &job.list, &given.classes, unifier) {
-            Ok(None) => seen.answers_applied += 1,
-            Ok(Some(wrong)) => panic!("{wrong}: {}", said()),
-            Err(_) => {}
-        }
-    }
-    seen.count(&job, &given, &trees);
-    // A unifier that does not end looks like one whose terms are too large, and would be passed over.
-    assert!(seen.too_large_for_trees < 20 + seen.unified_as_trees / 50);
+fn ended<T>(thread: JoinHandle<T>) -> T {
+    thread.join().unwrap_or_else(|panic| resume_unwind(panic))
 }
 
 #[test]
 fn an_independent_unifier_on_many_random_jobs() {
-    println!("seed {SEED:#x}, {JOBS} jobs");
-    let seen = on_a_large_stack(|| {
-        let mut numbers = Numbers::new(SEED);
-        let mut seen = Seen::default();
-        for number in 0..JOBS {
-            compare(&mut numbers, number, &mut seen);
-        }
-        seen
-    });
-    println!("{seen:#?}");
-    assert!(seen.answers.iter().all(|&times| times > 0));
+    let (seed, jobs) = (setting("STATION_SEED", SEED), setting("STATION_JOBS", JOBS));
+    println!("seed {seed:#x}, {jobs} jobs");
+    let began = time::Instant::now();
+    let threads = thread::available_parallelism().map_or(2, |cores| cores.get() as u64);
+    // A job depends on the seed and its number alone, so the threads may share the numbers out.
+    let parts: Vec<_> = (0..threads)
+        .map(|first| {
+            on_a_large_stack(move || {
+                let mut seen = Seen::default();
+                for number in (first..jobs).step_by(threads as usize) {
+                    compare(seed, number, &mut seen);
+                }
+                seen
+            })
+        })
+        .collect();
+    let mut seen = Seen::default();
+    for part in parts {
+        seen.add(&ended(part));
+    }
+    println!("{} s on {threads} threads", began.elapsed().as_secs());
+    seen.print();
+    seen.assert_every_answer();
 }
 
 // ---- the judge itself
@@ -161,6 +122,6 @@ fn a_wrong_class_table_is_told_by_its_replacement() {
     let more = "variable 3 is bound more than it must be".to_string();
     assert_eq!(wrong(&c, &[], &[0, 1, 2, 1]), Ok(Some(more)));
     // A variable that would become a term in which it stands.
-    let endless = on_a_large_stack(move || wrong(&b, &[1, 3], &[0, 1, 0, 1]));
+    let endless = ended(on_a_large_stack(move || wrong(&b, &[1, 3], &[0, 1, 0, 1])));
     assert_eq!(endless, Err(TooLarge));
 }

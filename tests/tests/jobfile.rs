@@ -4,6 +4,7 @@
 use station_tests::files::{
     bodies, body, pairs, read, words, write, BODY, CONTENTS, FILE, GOOD, MOST_BYTES, PLACES, ROOM,
 };
+use station_tests::independent::jobfile::{fault, number};
 use station_tests::jobs::{bodies_of, examples, file_of, sizes_of, Job};
 use station_tests::programs::written_by;
 
@@ -23,39 +24,13 @@ fn set16(file: &mut [u8], at: usize, number: u16) {
     file[at..at + 2].copy_from_slice(&number.to_le_bytes());
 }
 
-fn number(file: &[u8], at: usize) -> usize {
-    file[at] as usize + 256 * file[at + 1] as usize
-}
-
-/// A second reader: answer and place.
-fn judged(file: &[u8]) -> (u16, u16) {
-    if file.len() < 2 || file.len() > MOST_BYTES {
-        return (FILE, 0);
-    }
-    let jobs = number(file, 0);
-    if jobs == 0 || jobs > 64 || 2 + 6 * jobs > file.len() {
-        return (CONTENTS, 0);
-    }
-    let mut end = 2 + 6 * jobs;
-    for (k, entry) in file[2..end].to_vec().chunks(6).enumerate() {
-        let here = end;
-        end += 4 * (number(entry, 2) + number(entry, 4));
-        if number(entry, 0) != here || end > file.len() {
-            return (BODY, k as u16 + 1);
-        }
-    }
-    if end < file.len() {
-        return (BODY, jobs as u16 + 1);
-    }
-    (GOOD, 0)
-}
-
 /// The answer and place of a file; and that what it yields is as document 01 says, and that a good
 /// one is written again with the same bytes.
 fn answer(file: &[u8]) -> (u16, u16) {
     let found = read(file);
     let part = bodies(file);
-    assert_eq!((found.answer, found.place), judged(file));
+    let wanted = fault(file).unwrap_or((GOOD, 0));
+    assert_eq!((found.answer, usize::from(found.place)), wanted);
     assert_eq!(found.row.len(), PLACES);
     assert!(found.row[found.count..].iter().all(|&x| x == 0), "unused");
     if found.answer == GOOD {

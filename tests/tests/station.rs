@@ -1,17 +1,16 @@
 //! The host call on job files: its answers, and every byte of the room; and the entries on lent
 //! buffers beside it.
 
+use station_tests::checking::checked_on;
 use station_tests::files::{BODY, CONTENTS, FILE};
-use station_tests::ground;
 use station_tests::jobs::{bodies_of, examples, file_of, sizes_of, Job};
 use station_tests::matching::{example_a, example_b, example_c};
-use station_tests::station::{
-    check, match_job, match_lent, write, ADDRESS, CLASH, CYCLE, JOB, LIST,
-};
+use station_tests::station::{check, match_job, match_lent, write, JOB};
 use station_tests::table::{
-    argument_count, constant, function, pointer, variable, ACCEPTED, LAYOUT, LOOP, NAME, POINTER,
-    ROOM, SIZE, WORD,
+    argument_count, constant, function, pointer, variable, ACCEPTED, ADDRESS, CLASH, CYCLE, LAYOUT,
+    LIST, LOOP, NAME, POINTER, ROOM, SIZE, WORD,
 };
+use station_tests::table_reference::Graph;
 
 /// What stood in a row before: none of it may count.
 const OLD: u16 = 0xabcd;
@@ -273,17 +272,9 @@ fn the_table_check_on_lent_buffers() {
         let n = table.len();
         let mut class = vec![OLD; n + 3];
         let mut work = vec![OLD; 4 * n + 3];
-        let (answer, place, joins) = check(&table, &mut class, &mut work);
-        assert!(class[..n].iter().chain(&work[..4 * n]).all(|&e| e == 0));
-        assert_eq!(
-            (&class[n..], &work[4 * n..]),
-            (&[OLD; 3][..], &[OLD; 3][..])
-        );
-        assert_eq!(joins, 0);
-        assert_eq!(
-            (answer, place),
-            ground::check(&table, &mut class, &mut work)
-        );
+        let (answer, place) = checked_on(&table, &mut class, &mut work);
+        let wanted = Graph::of(&table).map_or_else(|fault| fault, |_| (ACCEPTED, 0));
+        assert_eq!((answer, usize::from(place)), wanted);
         // what the check refuses, a match refuses the same way
         if answer != ACCEPTED {
             refused(&(table, vec![]), answer, place);

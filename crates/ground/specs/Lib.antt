@@ -1,3 +1,1 @@
 pub mod Ground
-pub mod Lists
-pub mod Tables

@@ -1,8 +1,4 @@
-// What `words` says of one word and of two heads, the table check and the match, in plain numbers, for
-// tests in another language to call.
-pub mod lists;
-pub mod tables;
-
+// What `words` says of one word and of two heads, in plain numbers, for tests in another language to call.
 ghost use mathlib.Core.Path.{_≡_};
 ghost use Rattle.words.specs.Word.{contentOf, kindOf};
 ghost use Rattle.ground.specs.Ground.{kindNumber, headAt, outcomeNumber, groundMeeting};

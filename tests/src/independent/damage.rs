@@ -1,5 +1,6 @@
 //! Ways in which a good job becomes one to refuse, or nearly.
 
+use crate::files::MOST_BYTES;
 use crate::random::Numbers;
 use crate::table::{argument_count, constant, function, pointer, variable};
 
@@ -72,4 +73,55 @@ pub fn list(numbers: &mut Numbers, list: &mut Vec<u16>, n: usize) {
             list[at] = [any, any, 0, 65_535][kind - 2];
         }
     }
+}
+
+/// What the writer is sent: an odd or another row of sizes, or bodies of another length.
+pub fn sent(numbers: &mut Numbers, sizes: &mut Vec<u16>, bodies: &mut Vec<u8>) {
+    let at = numbers.below(sizes.len());
+    match numbers.below(8) {
+        0 => sizes.clear(),
+        1 => sizes.push(0),
+        2 => sizes.extend([0, 0]),
+        3 => sizes.resize(127 + numbers.below(4), 0),
+        4 => sizes.swap(at, at ^ 1),
+        5 => sizes[at] = near(numbers, sizes[at]),
+        6 => bodies.push(0),
+        _ => bodies.truncate(bodies.len() - bodies.len().min(1 + numbers.below(4))),
+    }
+}
+
+/// A file of at least one job: its count, one number or byte of its contents, a byte of a body, its
+/// end; or it becomes nearly nothing, or as long as a file may be and one longer.
+pub fn file(numbers: &mut Numbers, file: &mut Vec<u8>) {
+    let jobs = usize::from(file[0]).min((file.len() - 2) / 6);
+    let contents = 2 + 6 * jobs;
+    let at = 2 * numbers.below(contents / 2);
+    match numbers.below(10) {
+        0 => set(file, 0, [0, 65, 256, 65_535][numbers.below(4)]),
+        1 => {
+            let old = u16::from_le_bytes([file[at], file[at + 1]]);
+            set(file, at, near(numbers, old));
+        }
+        2 => file[at] ^= 1 << numbers.below(8),
+        3..=5 => {
+            let at = numbers.below(file.len());
+            file[at] = numbers.number() as u8;
+        }
+        6 => file.extend(vec![0; 1 + numbers.below(5)]),
+        7 => file.truncate(numbers.below(file.len())),
+        8 => file.truncate(numbers.below(4)),
+        _ => file.resize(MOST_BYTES + numbers.below(3), 0),
+    }
+}
+
+fn near(numbers: &mut Numbers, number: u16) -> u16 {
+    match numbers.below(3) {
+        0 => number.wrapping_sub(1),
+        1 => number.wrapping_add(1),
+        _ => numbers.number() as u16,
+    }
+}
+
+fn set(file: &mut [u8], at: usize, number: u16) {
+    file[at..at + 2].copy_from_slice(&number.to_le_bytes());
 }

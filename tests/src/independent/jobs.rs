@@ -1,7 +1,7 @@
 //! Random jobs: a table of some shape, a list for it, damage to either, and rooms.
 
 use super::faults;
-use super::{damage, lists, tables};
+use super::{damage, filed, lists, tables};
 use crate::random::Numbers;
 use crate::table::{constant, MOST_WORDS};
 
@@ -21,10 +21,10 @@ pub fn job(numbers: &mut Numbers) -> Job {
         copy = table.len();
         table = tables::with_copy(numbers, &table);
     }
-    let most = match (large, numbers.below(4)) {
-        (true, 0) => 256,
+    let most = match (large, numbers.below(40)) {
+        (true, 0..=9) | (false, 0..=2) => 256,
         (true, _) => 40,
-        (false, 0) => 20,
+        (false, 3..=11) => 20,
         (false, _) => 6,
     };
     let length = numbers.below(most + 1);
@@ -43,22 +43,28 @@ pub fn job(numbers: &mut Numbers) -> Job {
     if numbers.one_in(15) {
         damage::list(numbers, &mut list, table.len());
     }
-    if numbers.one_in(300) {
-        let n = [0, MOST_WORDS, MOST_WORDS + 1, MOST_WORDS + 2][numbers.below(4)];
-        table.resize(n, constant(1));
+    if numbers.one_in(100) {
+        table.resize(size(numbers, table.len()), constant(1));
     }
     let n = table.len();
-    let mut room = |least: usize| match numbers.below(120) {
-        0 => least.saturating_sub(1),
-        1 => numbers.below(least + 1),
-        2..=60 => least,
-        _ => least + 1 + numbers.below(9),
-    };
     Job {
-        class_room: room(n),
-        work_room: room(4 * n),
+        class_room: filed::room(numbers, n),
+        work_room: filed::room(numbers, 4 * n),
         table,
         list,
+    }
+}
+
+/// Numbers of words at the limit of a table, of a file, and of 16 bits.
+fn size(numbers: &mut Numbers, n: usize) -> usize {
+    match numbers.below(16) {
+        0..=4 => 0,
+        5 => MOST_WORDS,
+        6..=8 => MOST_WORDS + 1,
+        9 | 10 => MOST_WORDS + 1 + numbers.below(4_000),
+        11..=13 => 8_192 - numbers.below(5),
+        14 => 65_536 - numbers.below(2),
+        _ => 65_536 + n,
     }
 }
 

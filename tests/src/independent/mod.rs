@@ -1,16 +1,21 @@
 //! A second judge of jobs, written from the textbook and from document 01 alone, to be compared with
-//! the proved match. It shares no code and no idea with it: terms are trees, the unifier is Robinson's,
+//! the station's entries. It shares no code and no idea with it: terms are trees, the unifier is Robinson's,
 //! and what document 01 defines on nodes is computed by the plainest means there are.
 
+pub mod compare;
 pub mod damage;
 pub mod faults;
+pub mod filed;
 pub mod graph;
+pub mod host;
+pub mod jobfile;
 pub mod jobs;
 pub mod judge;
 pub mod lists;
 pub mod partition;
 pub mod replacement;
 pub mod robinson;
+pub mod seen;
 pub mod tables;
 pub mod terms;
 

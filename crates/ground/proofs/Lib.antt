@@ -1,2 +1,0 @@
-pub mod OneCheck
-pub mod OneMatch

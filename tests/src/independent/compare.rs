@@ -1,0 +1,121 @@
+//! One random job through the four entries of the station, each against its own naive judge.
+
+use super::jobs::{job, Job};
+use super::judge::{judge, wrong_as_replacement, Trees};
+use super::seen::{Entry, Seen};
+use super::{damage, faults, filed, host, jobfile};
+use crate::checking::checked_on;
+use crate::jobs::{bodies_of, file_from, sizes_of};
+use crate::matching::{matched_on, Given};
+use crate::random::Numbers;
+use crate::station;
+use crate::table::{ACCEPTED, ROOM};
+use std::thread::panicking;
+
+/// Says which job it was when a comparison fails.
+struct Told<'a>(u64, &'a Job);
+
+impl Drop for Told<'_> {
+    fn drop(&mut self) {
+        let Told(number, job) = self;
+        if panicking() {
+            println!("job {number}: {:x?} {:?}", job.table, job.list);
+            println!("rooms {} and {}", job.class_room, job.work_room);
+        }
+    }
+}
+
+/// Compares the job of a number, in a run of a seed.
+pub fn compare(seed: u64, number: u64, seen: &mut Seen) {
+    let numbers = &mut Numbers::of_part(seed, number);
+    let job = job(numbers);
+    let _told = Told(number, &job);
+    let wanted = on_lent_buffers(numbers, &job, seen);
+    check_alone(numbers, &job, seen);
+    in_a_file(numbers, &job, &wanted, seen);
+    // A unifier that does not end looks like one whose terms are too large, and would be passed over.
+    assert!(seen.too_large_for_trees < 20 + seen.unified_as_trees / 50);
+}
+
+fn on_lent_buffers(numbers: &mut Numbers, job: &Job, seen: &mut Seen) -> Given {
+    let mut class = numbers.entries(job.class_room);
+    let mut work = numbers.entries(job.work_room);
+    let given = matched_on(&job.table, &job.list, &mut class, &mut work);
+    let (wanted, trees) = judge(&job.table, &job.list, job.class_room, job.work_room);
+    assert_eq!(given, wanted);
+    if let Trees::Unified(unifier) = &trees {
+        match wrong_as_replacement(&job.table, &job.list, &given.classes, unifier) {
+            Ok(None) => seen.answers_applied += 1,
+            Ok(Some(wrong)) => panic!("{wrong}"),
+            Err(_) => {}
+        }
+    }
+    seen.answer(Entry::Lent, given.answer);
+    seen.job(job.table.len(), job.list.len() / 2, &given, &trees);
+    given
+}
+
+fn check_alone(numbers: &mut Numbers, job: &Job, seen: &mut Seen) {
+    let mut class = numbers.entries(job.class_room);
+    let mut work = numbers.entries(job.work_room);
+    let (answer, place) = checked_on(&job.table, &mut class, &mut work);
+    let fault = faults::of_table(&job.table, job.class_room, job.work_room);
+    let wanted = fault.unwrap_or((ACCEPTED, 0));
+    assert_eq!((answer, usize::from(place)), wanted);
+    seen.answer(Entry::Check, answer);
+}
+
+/// The job in a file among others, which the station writes; then whatever the file may have become.
+fn in_a_file(numbers: &mut Numbers, job: &Job, wanted: &Given, seen: &mut Seen) {
+    // A size has 16 bits, and a file holds whole pairs.
+    let words = job.table.len().min(65_535);
+    let entries = job.list.len() / 2 * 2;
+    let own = (job.table[..words].to_vec(), job.list[..entries].to_vec());
+    let known = own.0 == job.table && own.1 == job.list && wanted.answer != ROOM;
+
+    let (jobs, own_number) = filed::among_others(numbers, own.clone());
+    let (mut sizes, mut bodies) = (sizes_of(&jobs), bodies_of(&jobs));
+    if numbers.one_in(8) {
+        damage::sent(numbers, &mut sizes, &mut bodies);
+    }
+    let mut file = file_from(&sizes, &bodies);
+    write(numbers, &sizes, &bodies, &file, seen);
+
+    if file.len() > 2 && numbers.one_in(4) {
+        damage::file(numbers, &mut file);
+    }
+    let asked = filed::number(numbers, own_number, jobs.len());
+    let room = filed::room(numbers, 6 + 2 * words);
+    let mut room = numbers.bytes(room);
+    let mut left = room.clone();
+    let answer = match host::asked_for(&file, asked, room.len()) {
+        Err(refusal) => refusal,
+        Ok((table, list)) => {
+            let n = table.len();
+            let given = if known && (&table, &list) == (&own.0, &own.1) {
+                wanted.clone()
+            } else {
+                judge(&table, &list, n, 4 * n).0
+            };
+            let report = host::report(&given, n);
+            left[..report.len()].copy_from_slice(&report);
+            given.answer
+        }
+    };
+    assert_eq!(station::match_job(&file, asked, &mut room), answer);
+    assert_eq!(room, left);
+    seen.answer(Entry::Match, answer);
+}
+
+fn write(numbers: &mut Numbers, sizes: &[u16], bodies: &[u8], file: &[u8], seen: &mut Seen) {
+    let room = filed::room(numbers, file.len());
+    let mut room = numbers.bytes(room);
+    let mut left = room.clone();
+    let answer = jobfile::refusal(sizes, bodies.len(), room.len()).unwrap_or(ACCEPTED);
+    if answer == ACCEPTED {
+        left[..file.len()].copy_from_slice(file);
+    }
+    assert_eq!(station::write(sizes, bodies, &mut room), answer);
+    assert_eq!(room, left);
+    seen.answer(Entry::Write, answer);
+}
