@@ -11,6 +11,7 @@ use std::path::{Path, PathBuf};
 pub mod checking;
 pub mod files;
 pub mod ground;
+pub mod guarded;
 pub mod independent;
 pub mod jobs;
 pub mod match_reference;
