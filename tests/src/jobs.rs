@@ -10,6 +10,12 @@ pub fn examples() -> Vec<Job> {
     vec![(example_a(), vec![1, 9]), (example_b(), vec![1, 3])]
 }
 
+/// The job as a file can hold it: with whole pairs.
+pub fn in_pairs((table, mut list): Job) -> Job {
+    list.truncate(list.len() / 2 * 2);
+    (table, list)
+}
+
 pub fn sizes_of(jobs: &[Job]) -> Vec<u16> {
     jobs.iter()
         .flat_map(|(words, pairs)| [words.len() as u16, (pairs.len() / 2) as u16])

@@ -16,6 +16,17 @@ pub struct Given {
     pub classes: Vec<u16>,
 }
 
+impl Given {
+    /// How the class and the work buffer begin afterwards, for a table of n words; 1 and 2 change nothing.
+    pub fn left(&self, n: usize) -> (Vec<u16>, Vec<u16>) {
+        let unchanged = self.answer == SIZE || self.answer == ROOM;
+        let in_use = if unchanged { 0 } else { n };
+        let mut class = self.classes.clone();
+        class.resize(in_use, 0);
+        (class, vec![0; 4 * in_use])
+    }
+}
+
 pub fn accepted(classes: &[u16], joins: u16) -> Given {
     Given {
         answer: ACCEPTED,

@@ -6,6 +6,7 @@ use std::ffi::OsStr;
 use std::io::Write;
 use std::path::{Path, PathBuf};
 use std::process::{Command, Stdio};
+use std::thread;
 
 /// What a program writes for these bytes; it must end well.
 pub fn output_of(program: &Path, input: &[u8]) -> Vec<u8> {
@@ -40,6 +41,33 @@ pub fn printed(command: &mut Command) -> String {
     let errors = String::from_utf8_lossy(&output.stderr);
     assert!(output.status.success(), "{command:?}: {errors}");
     String::from_utf8(output.stdout).expect("it prints text")
+}
+
+/// The same for a command that reads a text. It may print before it has read all, so what it prints is
+/// read meanwhile.
+pub fn printed_for(command: &mut Command, input: &str) -> String {
+    let mut child = command
+        .stdin(Stdio::piped())
+        .stdout(Stdio::piped())
+        .stderr(Stdio::piped())
+        .spawn()
+        .unwrap_or_else(|e| panic!("{command:?}: {e}"));
+    let mut to_child = child.stdin.take().expect("its input is piped");
+    let input = input.to_string();
+    let writer = thread::spawn(move || to_child.write_all(input.as_bytes()));
+    let output = child.wait_with_output().expect("it ends");
+    let errors = String::from_utf8_lossy(&output.stderr);
+    assert!(output.status.success(), "{command:?}: {errors}");
+    let written = writer.join().expect("the writer ends");
+    written.expect("it reads its input");
+    String::from_utf8(output.stdout).expect("it prints text")
+}
+
+/// Valgrind, for a program that is to be named next. What it finds ends the run with a status of its own.
+pub fn valgrind() -> Command {
+    let mut command = Command::new("valgrind");
+    command.args(["--quiet", "--error-exitcode=9", "--track-origins=yes"]);
+    command
 }
 
 /// Builds a C program, by its path from the root, and gives where it is. The options come before the

@@ -4,8 +4,9 @@
 
 use station_tests::guarded::Guarded;
 use station_tests::independent::jobs::job;
-use station_tests::independent::{faults, host, jobfile, judge};
-use station_tests::jobs::{bodies_of, file_from, sizes_of, Job};
+use station_tests::independent::judge::{check, judge};
+use station_tests::independent::{host, jobfile};
+use station_tests::jobs::{bodies_of, file_from, in_pairs, sizes_of, Job};
 use station_tests::matching::{accepted, refused, Given};
 use station_tests::random::Numbers;
 use station_tests::station;
@@ -47,14 +48,9 @@ impl Buffers {
     /// That these numbers were given and that the buffers are left as document 01 says.
     fn assert_given(&mut self, found: (u16, u16, u16), wanted: &Given, n: usize) {
         assert_eq!(found, (wanted.answer, wanted.place, wanted.joins));
-        let in_use = match wanted.answer {
-            SIZE | ROOM => 0,
-            _ => n,
-        };
-        let mut classes = wanted.classes.clone();
-        classes.resize(in_use, 0);
-        self.class.assert_left(&classes);
-        self.work.assert_left(&vec![0; 4 * in_use]);
+        let (class, work) = wanted.left(n);
+        self.class.assert_left(&class);
+        self.work.assert_left(&work);
     }
 
     fn match_job(&mut self, numbers: &mut Numbers, (table, list): &Job, wanted: &Given) {
@@ -79,14 +75,6 @@ impl Buffers {
     }
 }
 
-/// What a check must give. Its class entries are 0 where it accepts, too.
-fn checked(table: &[u32], class_room: usize, work_room: usize) -> Given {
-    match faults::of_table(table, class_room, work_room) {
-        Some((answer, place)) => refused(answer, place),
-        None => accepted(&vec![0; table.len()], 0),
-    }
-}
-
 /// The rooms of both buffers in turn.
 fn both_rooms(numbers: &mut Numbers, n: usize) -> Vec<(usize, usize)> {
     let (class_rooms, work_rooms) = (rooms(numbers, n), rooms(numbers, 4 * n));
@@ -101,7 +89,7 @@ fn station_lent_on_dirty_buffers() {
     each_job(|numbers, job| {
         let (table, list) = &job;
         let n = table.len();
-        let enough = judge::judge(table, list, n, 4 * n).0;
+        let enough = judge(table, list, n, 4 * n).0;
         for (class_room, work_room) in both_rooms(numbers, n) {
             let short = class_room < n || work_room < 4 * n;
             let wanted = match enough.answer {
@@ -121,7 +109,7 @@ fn station_lent_on_dirty_buffers() {
 fn station_check_on_dirty_buffers() {
     each_job(|numbers, (table, _)| {
         for (class_room, work_room) in both_rooms(numbers, table.len()) {
-            let wanted = checked(&table, class_room, work_room);
+            let wanted = check(&table, class_room, work_room);
             let mut buffers = Buffers::new(numbers, class_room, work_room);
             buffers.check_table(numbers, &table, &wanted);
             buffers.check_table(numbers, &table, &wanted);
@@ -141,9 +129,9 @@ fn one_set_of_buffers_for_all_lists() {
     for part in 0..JOBS {
         let made = job(&mut Numbers::of_part(SEED, part));
         let job = (made.table, made.list);
-        let wanted = judge::judge(&job.0, &job.1, class_room, work_room).0;
+        let wanted = judge(&job.0, &job.1, class_room, work_room).0;
         buffers.match_job(&mut numbers, &job, &wanted);
-        let wanted_check = checked(&job.0, class_room, work_room);
+        let wanted_check = check(&job.0, class_room, work_room);
         buffers.check_table(&mut numbers, &job.0, &wanted_check);
         buffers.match_job(&mut numbers, &last, &wanted_last);
         buffers.match_job(&mut numbers, &job, &wanted);
@@ -159,11 +147,9 @@ fn station_match_on_dirty_room() {
         if n > 8_192 {
             return;
         }
-        // A file holds whole pairs.
-        let list = job.1[..job.1.len() / 2 * 2].to_vec();
-        let jobs = [(vec![0], vec![]), (job.0, list)];
+        let jobs = [(vec![0], vec![]), in_pairs(job)];
         let file = file_from(&sizes_of(&jobs), &bodies_of(&jobs));
-        let enough = judge::judge(&jobs[1].0, &jobs[1].1, n, 4 * n).0;
+        let enough = judge(&jobs[1].0, &jobs[1].1, n, 4 * n).0;
         for number in [2, 0, 3] {
             for room in rooms(numbers, 6 + 2 * n) {
                 let (answer, report) = match host::asked_for(&file, number, room) {
@@ -190,8 +176,7 @@ fn station_write_on_dirty_room() {
         if job.0.len() > 8_192 {
             return;
         }
-        let list = job.1[..job.1.len() / 2 * 2].to_vec();
-        let jobs = [(job.0, list), (vec![0], vec![])];
+        let jobs = [in_pairs(job), (vec![0], vec![])];
         let (sizes, bodies) = (sizes_of(&jobs), bodies_of(&jobs));
         let file = file_from(&sizes, &bodies);
         // Good ones, one size too few, and one byte too few.

@@ -1,7 +1,7 @@
 //! The host program in C, built with the machine's compilers and linked to the library, prints what
 //! examples/host.out says.
 
-use station_tests::programs::{built_with_station, printed};
+use station_tests::programs::{built_with_station, printed, valgrind};
 use station_tests::read;
 use std::path::PathBuf;
 use std::process::Command;
@@ -31,9 +31,5 @@ fn as_cpp() {
 #[test]
 fn under_valgrind() {
     let program = host("gcc", &["-O2", "-std=c11", "-g"], "host-valgrind");
-    let mut command = Command::new("valgrind");
-    command
-        .args(["--quiet", "--error-exitcode=9", "--track-origins=yes"])
-        .arg(program);
-    assert_eq!(printed(&mut command), expected());
+    assert_eq!(printed(valgrind().arg(program)), expected());
 }

@@ -1,28 +1,17 @@
 //! The matcher on tables that are deep, wide or shared, up to the largest. None may take long: a
 //! walk that follows terms and not words would not end here.
 
+use station_tests::large_tables::{chains, row_of_variables, towers, wide_blocks, wide_start};
 use station_tests::matching::{accepted, matched, refused};
 use station_tests::random::Numbers;
 use station_tests::table::{
-    argument_count, constant, function, pointer, variable, words, ACCEPTED, CLASH, CYCLE,
-    MOST_PAIRS, MOST_WORDS,
+    argument_count, constant, function, pointer, variable, ACCEPTED, CLASH, CYCLE, MOST_PAIRS,
+    MOST_WORDS,
 };
 
-/// Two chains of functions of one argument, one behind the other; each pointer names the next block.
-/// The last arguments are given. Returns the address of the second chain too.
+/// Two chains whose pointers lead ahead, and the address of the second.
 fn two_chains(blocks: usize, first_end: u32, second_end: u32) -> (Vec<u32>, u16) {
-    let mut table = vec![0];
-    for end in [first_end, second_end] {
-        for block in 1..=blocks {
-            let next = table.len() + 3;
-            let argument = if block < blocks {
-                pointer(next as u16)
-            } else {
-                end
-            };
-            table.extend([function(1), argument_count(1), argument]);
-        }
-    }
+    let table = chains(&[first_end, second_end], blocks, true);
     (table, 3 * blocks as u16 + 1)
 }
 
@@ -69,9 +58,7 @@ fn deep_chains_that_fail_at_the_end() {
 /// 257 variables in a row of 256 pairs, in three orders: one class, named by the lowest address.
 #[test]
 fn pairs_in_a_row() {
-    let items: Vec<u32> = (0..4_095).map(variable).collect();
-    let table = words(&items);
-    let mut pairs: Vec<(u16, u16)> = (1..=MOST_PAIRS as u16).map(|x| (x, x + 1)).collect();
+    let (table, mut pairs) = row_of_variables();
     let mut classes: Vec<u16> = (0..4_096).collect();
     classes[1..=257].fill(1);
     let mut numbers = Numbers::new(0x0c4a_1270);
@@ -90,23 +77,17 @@ fn pairs_in_a_row() {
     assert_eq!(matched(&table, &tree), accepted(&classes, 256));
 }
 
-/// Fifteen functions of 255 arguments, the most of them that a table holds: variables in all but one.
+/// Variables in all wide blocks but one.
 #[test]
-fn wide_blocks() {
-    let mut items = Vec::new();
-    for block in 0..15_u16 {
-        items.extend([function(1), argument_count(255)]);
-        items.extend((0..255).map(|i| {
-            if block == 7 {
-                constant(i)
-            } else {
-                variable(255 * block + i)
-            }
-        }));
-    }
-    let table = words(&items);
-    let start = |block: u16| 257 * block + 1;
-    let pairs: Vec<(u16, u16)> = (0..14).map(|b| (start(b), start(b + 1))).collect();
+fn wide() {
+    let (table, pairs) = wide_blocks(|block, i| {
+        if block == 7 {
+            constant(i)
+        } else {
+            variable(255 * block + i)
+        }
+    });
+    let start = wide_start;
     let given = matched(&table, &pairs);
     assert_eq!((given.answer, given.joins), (ACCEPTED, 14 * 256));
     for block in 0..15 {
@@ -180,31 +161,12 @@ fn example_3_of_source_000() {
     }
 }
 
-/// Terms g(t,t) of terms g(t,t), with pointers forward or back: 2^1000 leaves, and 1,000 blocks. Two
-/// such towers on one variable each are matched, and a tower with its own inside.
+/// Two towers of 500 blocks, with pointers forward or back, are matched, and a tower with its own inside.
 #[test]
 fn shared_towers() {
     let levels = 500;
     for forward in [true, false] {
-        let mut table = vec![0];
-        for tower in 0..2_usize {
-            let start = 1 + 4 * levels * tower;
-            for level in 0..levels {
-                let at = start + 4 * level;
-                let ground = if forward {
-                    level + 1 == levels
-                } else {
-                    level == 0
-                };
-                let (first, second) = if ground {
-                    (variable(tower as u16), pointer(at as u16 + 2))
-                } else {
-                    let to = if forward { at + 4 } else { at - 4 };
-                    (pointer(to as u16), pointer(to as u16))
-                };
-                table.extend([function(9), argument_count(2), first, second]);
-            }
-        }
+        let table = towers(levels, forward);
         let (bottom, top) = (1, 1 + 4 * (levels as u16 - 1));
         let root = if forward { bottom } else { top };
         let inside = if forward { top } else { bottom };

@@ -1,11 +1,11 @@
 //! One random job through the four entries of the station, each against its own naive judge.
 
 use super::jobs::{job, Job};
-use super::judge::{judge, wrong_as_replacement, Trees};
+use super::judge::{check, judge, wrong_as_replacement, Trees};
 use super::seen::{Entry, Seen};
-use super::{damage, faults, filed, host, jobfile};
+use super::{damage, filed, host, jobfile};
 use crate::checking::checked_on;
-use crate::jobs::{bodies_of, file_from, sizes_of};
+use crate::jobs::{bodies_of, file_from, in_pairs, sizes_of};
 use crate::matching::{matched_on, Given};
 use crate::random::Numbers;
 use crate::station;
@@ -59,18 +59,16 @@ fn check_alone(numbers: &mut Numbers, job: &Job, seen: &mut Seen) {
     let mut class = numbers.entries(job.class_room);
     let mut work = numbers.entries(job.work_room);
     let (answer, place) = checked_on(&job.table, &mut class, &mut work);
-    let fault = faults::of_table(&job.table, job.class_room, job.work_room);
-    let wanted = fault.unwrap_or((ACCEPTED, 0));
-    assert_eq!((answer, usize::from(place)), wanted);
+    let wanted = check(&job.table, job.class_room, job.work_room);
+    assert_eq!((answer, place), (wanted.answer, wanted.place));
     seen.answer(Entry::Check, answer);
 }
 
 /// The job in a file among others, which the station writes; then whatever the file may have become.
 fn in_a_file(numbers: &mut Numbers, job: &Job, wanted: &Given, seen: &mut Seen) {
-    // A size has 16 bits, and a file holds whole pairs.
+    // A size has 16 bits.
     let words = job.table.len().min(65_535);
-    let entries = job.list.len() / 2 * 2;
-    let own = (job.table[..words].to_vec(), job.list[..entries].to_vec());
+    let own = in_pairs((job.table[..words].to_vec(), job.list.clone()));
     let known = own.0 == job.table && own.1 == job.list && wanted.answer != ROOM;
 
     let (jobs, own_number) = filed::among_others(numbers, own.clone());
