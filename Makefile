@@ -1,15 +1,18 @@
 # The ways to run things. `make` alone lists them.
-.PHONY: help list host test check install fmt clean FORCE
+.PHONY: help list host test soak check install fmt clean FORCE
 
 # A proof that fails is not to be hidden by the grep behind it.
 SHELL := /bin/bash -o pipefail
 PREFIX ?= /usr/local
 JOB ?= examples/two-jobs.job
+JOBS ?= 5000000
+SEED ?= $(shell date +%s)
 
 help:
 	@echo 'make list JOB=examples/two-jobs.job   prove and build the listing program, and list a job file'
 	@echo 'make host                             build the host program in C and run it'
 	@echo 'make test                             the gate: layout, every proof from nothing, the tests'
+	@echo 'make soak JOBS=5000000 SEED=1         the station against an independent unifier on so many random jobs'
 	@echo 'make check                            prove every crate that changed since it was last proved'
 	@echo 'make install PREFIX=/usr/local        header, library, pkg-config file, listing program, manual page'
 	@echo 'make fmt                              put every file of Rattle and antt into the layout'
@@ -34,6 +37,11 @@ host: target/host
 
 test:
 	.ci/run
+
+# The gate's own comparison, longer and from another seed each time; it prints the seed.
+soak:
+	for library in $$(sed 's/#.*//' tests/staticlibs.txt); do rt staticlib $$library || exit 1; done
+	cd tests && STATION_JOBS=$(JOBS) STATION_SEED=$(SEED) cargo test --offline --release --test independent many_random_jobs -- --nocapture
 
 check:
 	rt check
