@@ -15,6 +15,8 @@ help:
 	@echo 'make soak JOBS=5000000 SEED=1         the station against an independent unifier on so many random jobs'
 	@echo 'make check                            prove every crate that changed since it was last proved'
 	@echo 'make install PREFIX=/usr/local        header, library, pkg-config file, listing program, manual page'
+	@echo 'make bench                            measure the speed beside plain C, and write docs/BENCH.md'
+	@echo 'make bench-peers                      install the Prolog systems that make bench measures too'
 	@echo 'make fmt                              put every file of Rattle and antt into the layout'
 	@echo 'make clean                            remove all that was built'
 
@@ -53,6 +55,20 @@ install: target/bin/listing target/staticlib/libstation.a
 	sed 's|@PREFIX@|$(PREFIX)|' packaging/station.pc.in >$(DESTDIR)$(PREFIX)/lib/pkgconfig/station.pc
 	install -m 755 target/bin/listing $(DESTDIR)$(PREFIX)/bin/station-listing
 	install -m 644 packaging/station-listing.1 $(DESTDIR)$(PREFIX)/share/man/man1/station-listing.1
+
+# ---- speed: bench/README.md
+.PHONY: bench bench-peers
+
+target/bench/bench: $(wildcard bench/*.[ch] bench/plain/*.[ch]) include/station.h target/staticlib/libstation.a
+	@mkdir -p target/bench
+	gcc -std=c11 -O3 -Wall -Wextra -Iinclude -Ibench bench/*.c bench/plain/plain.c target/staticlib/libstation.a -o $@
+
+bench: target/bench/bench
+	@bench/run
+
+bench-peers:
+	@bench/peers/install
+# ---- end of speed
 
 fmt:
 	rt fmt
