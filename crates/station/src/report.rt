@@ -8,7 +8,6 @@ ghost use Rattle.rows.specs.Placed.{placed};
 ghost use Rattle.matcher.specs.Match.{numberOf, placeOf, joinsOf};
 ghost use Rattle.jobfile.specs.Numbers.{bytesOfRow};
 ghost use Rattle.station.specs.Host.{reportOf};
-use crate::matched;
 use matcher::answer::Matched;
 
 // Puts three numbers into the first 6 bytes. The bytes after them stay.
@@ -38,8 +37,8 @@ pub(crate) fn report(answer: Matched, class: &[u16], room: &mut [u8]) -> u16
     requires { ⌜ 6 + 2 * length (now class) ≤ length (now room) ⌝ }
     ensures { λ r. ⌜ (r ≡ numberOf answer) × (now (room .exit) ≡ placed 0 (reportOf (numberOf answer) (placeOf answer) (joinsOf answer) (now (class .entry))) (now (room .entry))) ⌝ }
 {
-    let number = matched::number(answer);
-    put_numbers(room, number, matched::place(answer), matched::joins(answer));
+    let number = numbers::number(answer);
+    put_numbers(room, number, numbers::place(answer), numbers::joins(answer));
     put_classes(class, room);
     number
 }
