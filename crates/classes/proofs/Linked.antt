@@ -6,8 +6,8 @@ use mathlib.Core.Path.{_≡_, refl, sym, ap, _∙_, subst}
 use mathlib.Core.Bool.{_&&_}
 use mathlib.Core.Logic.{_⊎_, inl, inr, ⊎-elim}
 use mathlib.Core.List.{List, _∷_, List·Memᴰ·head, List·Memᴰ·tail, List·Memᴰ·cases-cons}
-use Prim.Native.Nat.{ℕ, zero, suc, _+_, _*_, _≤_, _<_}
-use native.Mathlib.Decide.{ℕ-discrete}
+use Prim.Native.Nat.{ℕ, _+_, _*_, _≤_, _<_}
+use native.Mathlib.Decide.{ℕ-discrete, decLt}
 use native.Mathlib.Omega.{arith}
 use lib.Dec.{eqb}
 use lib.ListN.{length, getD, set, length-set}
@@ -25,11 +25,6 @@ use Rattle.classes.proofs.Symbols.{one-symbol-degree, head-of-degree}
 use Rattle.classes.proofs.Heads.{Plain, left-variable, right-variable, constants, DifferentSymbols}
 use Rattle.classes.proofs.Moves.{turned-after}
 use Rattle.classes.proofs.Counts.{count-one, ownNode, own-counts, other-passes}
-
-before-or-after : (k w : ℕ) → (k < w) ⊎ (w ≤ k)
-before-or-after k zero = inr (omega arith)
-before-or-after zero (suc w) = inl (omega arith)
-before-or-after (suc k) (suc w) = ⊎-elim (λ h. inl (omega arith)) (λ h. inr (omega arith)) (before-or-after k w)
 
 -- ---- keys
 
@@ -127,13 +122,13 @@ module _ {t row work : List ℕ} {waiting name later : ℕ} (checked : PassedChe
 
   module _ {work-after : List ℕ} {waiting-after : ℕ} (w : Waits work-after waiting-after)
       (symbols : (s : TableSymbols .Symbol) (xs : List ℕ) → graphOf t .head later ≡ symbol s xs → OneSymbol t later name) where
-    waits-on : (k : ℕ) → k < waiting-after → (k < waiting) ⊎ (waiting ≤ k) → OneSymbol t (waitingLeft work-after k) (waitingRight work-after k)
-    waits-on k h (inl b) =
+    waits-on : (k : ℕ) → k < waiting-after → Dec (k < waiting) → OneSymbol t (waitingLeft work-after k) (waitingRight work-after k)
+    waits-on k h (yes b) =
         subst (λ (f : ℕ). OneSymbol t f (waitingRight work-after k)) (sym (w .same-left k b))
         (subst (OneSymbol t (waitingLeft work k)) (sym (w .same-right k b)) (state .waits k b))
-    waits-on k h (inr b) =
-        subst (λ (f : ℕ). OneSymbol t f (waitingRight work-after k)) (sym (w .new-left k b h))
-        (subst (OneSymbol t name) (sym (w .new-right k b h)) (w .new-symbol (omega arith)))
+    waits-on k h (no b) =
+        subst (λ (f : ℕ). OneSymbol t f (waitingRight work-after k)) (sym (w .new-left k (omega arith) h))
+        (subst (OneSymbol t name) (sym (w .new-right k (omega arith) h)) (w .new-symbol (omega arith)))
 
     linked-state : State t (set row later name) work-after waiting-after
     linked-state =
@@ -144,7 +139,7 @@ module _ {t row work : List ℕ} {waiting name later : ℕ} (checked : PassedChe
           symbol-up = λ x e. symbol-at x e (ℕ-discrete x later);
           work-room = w .room;
           few = omega (arith, state .few, linked-classes, w .one-more);
-          waits = λ k h. waits-on k h (before-or-after k waiting);
+          waits = λ k h. waits-on k h (decLt k waiting);
         }
       where
         nodes : (x : ℕ) → Node (graphOf t) x → Dec (x ≡ later) → Node (graphOf t) (entry (set row later name) x)
@@ -169,7 +164,7 @@ module _ {t row work : List ℕ} {waiting name later : ℕ} (checked : PassedChe
       linked-within pairs i =
           record {
             links = λ x n. links x n (ℕ-discrete x later);
-            waiting = λ k h. waits k h (before-or-after k waiting);
+            waiting = λ k h. waits k h (decLt k waiting);
             owed = λ p m. i .owed p (List·Memᴰ·tail m);
           }
         where
@@ -181,13 +176,13 @@ module _ {t row work : List ℕ} {waiting name later : ℕ} (checked : PassedChe
               subst (λ (y : ℕ). Same (graphOf t) pairs y (entry (set row later name) y)) (sym e) (subst (Same (graphOf t) pairs later) (sym at-later) (swapped together))
           links x n (no d) = subst (Same (graphOf t) pairs x) (sym (elsewhere x d)) (i .links x n)
 
-          waits : (k : ℕ) → k < waiting-after → (k < waiting) ⊎ (waiting ≤ k) → Same (graphOf t) pairs (waitingLeft work-after k) (waitingRight work-after k)
-          waits k h (inl b) =
+          waits : (k : ℕ) → k < waiting-after → Dec (k < waiting) → Same (graphOf t) pairs (waitingLeft work-after k) (waitingRight work-after k)
+          waits k h (yes b) =
               subst (λ (f : ℕ). Same (graphOf t) pairs f (waitingRight work-after k)) (sym (w .same-left k b))
               (subst (Same (graphOf t) pairs (waitingLeft work k)) (sym (w .same-right k b)) (i .waiting k b))
-          waits k h (inr b) =
-              subst (λ (f : ℕ). Same (graphOf t) pairs f (waitingRight work-after k)) (sym (w .new-left k b h))
-              (subst (Same (graphOf t) pairs name) (sym (w .new-right k b h)) together)
+          waits k h (no b) =
+              subst (λ (f : ℕ). Same (graphOf t) pairs f (waitingRight work-after k)) (sym (w .new-left k (omega arith) h))
+              (subst (Same (graphOf t) pairs name) (sym (w .new-right k (omega arith) h)) together)
 
       -- a labelling that agrees afterwards agreed before
       agreed : (q : ℕ → ℕ) → Agrees t joined q → Agrees t met q

@@ -1,9 +1,9 @@
 -- The answers of a match, from what its stages have shown.
 --
--- In order: rows that apply and rows that do not (`clear-first`, `passed-none`, `applied`); the check's answer is the match's (`check-refused`,
--- `check-passed`); the list (`list-answered`, `list-clear`, `side-answered`, `passes-all`); what a job has that passes all
--- checks (`ready`); the pairs (`accepted-answered`, `clash-answered`, `cycle-answered`);
--- the whole (`refused-late`, `accepted-bound`). Assumes nothing.
+-- In order: rows that apply and rows that do not (`Low`, `check-low`, `clear-first`, `passed-none`, `applied`); the check's
+-- answer is the match's (`table-fault`, `check-refused`, `check-passed`); the list (`list-answered`, `list-clear`,
+-- `side-answered`, `passes-all`); what a job has that passes all checks (`ready`); the pairs (`accepted-answered`,
+-- `clash-answered`, `cycle-answered`); the whole (`refused-late`, `accepted-bound`). Assumes nothing.
 use mathlib.Core.Path.{_≡_, refl, sym, ap, _∙_, subst}
 use mathlib.Core.Bool.{Bool, true, false, not, cond, _&&_, _||_}
 use mathlib.Core.Logic.{_⊎_, inl, inr, ⊎-elim}
@@ -43,7 +43,7 @@ low-number : (k : ℕ) {rows : List Row} {row : Row} → List·Memᴰ row rows �
 low-number k {rows} {row} (List·Memᴰ·head {x = first} {xs = rest} e) low = subst (λ (r : Row). number r ≤ k) (sym e) (low .0)
 low-number k (List·Memᴰ·tail {x = first} {xs = rest} m) low = low-number k m (low .1)
 
-check-low : Low 7 checkOrder
+pub check-low : Low 7 checkOrder
 unfolding number
 check-low = (omega arith, (omega arith, (omega arith, (omega arith, (omega arith, (omega arith, (omega arith, omega arith)))))))
 
@@ -93,7 +93,7 @@ passed-clear p answered row place h f = passed-none (check-row row h) p answered
 -- ---- the check's answer is the match's
 
 -- The rows 1 to 7 do not look at the list.
-table-fault : {t list other : List ℕ} {c w : ℕ} {row : Row} {p : ℕ} → number row ≤ 7
+pub table-fault : {t list other : List ℕ} {c w : ℕ} {row : Row} {p : ℕ} → number row ≤ 7
     → Fault (record { table = t; list = list; class-room = c; work-room = w }) row p → Fault (record { table = t; list = other; class-room = c; work-room = w }) row p
 unfolding number
 table-fault h (size-fault x) = size-fault x
