@@ -1,7 +1,7 @@
 -- Laws of the job file's definitions.
 --
 -- In order:
---     sizes                  length-sizesFrom, size-there, size-in, words-there, pairs-there, sizes-end
+--     sizes                  length-sizesFrom, size-there, size-in, entry-in-sizes, sizes-end
 --     lengths                length-contentsOf, length-fileOf
 --     written, then read     ReadBack, read-back: entries that were written are read again
 --     read, then written     contents-again
@@ -43,15 +43,14 @@ size-in bytes i h =
     let way : 2 + 6 * (i / 2) + 2 + 2 * (i % 2) ≡ 2 + 6 * (0 + i / 2) + 2 + 2 * (i % 2) = omega arith in
     ap (λ (at : ℕ). numberAt 2 at bytes) way ∙ sym (size-there (countIn bytes) 0 i bytes h)
 
-pub words-there : (m k j : ℕ) (bytes : List ℕ) → j < m → getD (sizesFrom m k bytes) (2 * j) 0 ≡ wordsIn bytes (k + j)
-words-there m k j bytes h =
-    let way : 2 + 6 * (k + (2 * j) / 2) + 2 + 2 * ((2 * j) % 2) ≡ 2 + 6 * (k + j) + 2 = omega arith in
-    size-there m k (2 * j) bytes (omega arith) ∙ ap (λ (at : ℕ). numberAt 2 at bytes) way
-
-pub pairs-there : (m k j : ℕ) (bytes : List ℕ) → j < m → getD (sizesFrom m k bytes) (2 * j + 1) 0 ≡ pairsIn bytes (k + j)
-pairs-there m k j bytes h =
-    let way : 2 + 6 * (k + (2 * j + 1) / 2) + 2 + 2 * ((2 * j + 1) % 2) ≡ 2 + 6 * (k + j) + 4 = omega arith in
-    size-there m k (2 * j + 1) bytes (omega arith) ∙ ap (λ (at : ℕ). numberAt 2 at bytes) way
+-- n and p of entry k, in the row of sizes
+pub entry-in-sizes : (bytes : List ℕ) (k : ℕ) → k < countIn bytes → (getD (sizesIn bytes) (2 * k) 0 ≡ wordsIn bytes k) × (getD (sizesIn bytes) (2 * k + 1) 0 ≡ pairsIn bytes k)
+entry-in-sizes bytes k h =
+    let words : 2 + 6 * ((2 * k) / 2) + 2 + 2 * ((2 * k) % 2) ≡ 2 + 6 * k + 2 = omega arith in
+    let pairs : 2 + 6 * ((2 * k + 1) / 2) + 2 + 2 * ((2 * k + 1) % 2) ≡ 2 + 6 * k + 4 = omega arith in (
+      sym (size-in bytes (2 * k) (omega arith)) ∙ ap (λ (at : ℕ). numberAt 2 at bytes) words,
+      sym (size-in bytes (2 * k + 1) (omega arith)) ∙ ap (λ (at : ℕ). numberAt 2 at bytes) pairs,
+    )
 
 -- the bodies of m entries end where the next body would start
 pub sizes-end : (m k : ℕ) (bytes : List ℕ) → bodyStart bytes k + bodiesSize (sizesFrom m k bytes) ≡ bodyStart bytes (k + m)

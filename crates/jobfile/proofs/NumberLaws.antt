@@ -1,20 +1,27 @@
 -- Laws of numbers of k bytes in a row of bytes, over k.
 --
 -- In order:
+--     a part           to-the-end
 --     one number       number-there, rest-there (written here, so it is read here); bytes-there (read here, so it is written so)
 --     a row of them    length-bytesOfRow, row-read-back, length-rowIn, entry-rowIn
 -- Assumes nothing.
 use mathlib.Core.Path.{_≡_, refl, sym, ap, _∙_}
-use Prim.Native.Nat.{ℕ, zero, suc, _+_, _*_, _^_, _≤_, _<_}
+use Prim.Native.Nat.{ℕ, zero, suc, _+_, _-_, _*_, _^_, _≤_, _<_}
 use native.Mathlib.Nat.{mul-suc, mul-zero, min-le-left}
 use native.Mathlib.Decide.{decLt}
 use native.Mathlib.Omega.{arith}
 use mathlib.Core.List.{List, [], _∷_, _++_, append-assoc}
 use lib.ListN.{length, take, drop, getD, length-append, length-take, length-drop, take-append-drop, List·getD-eq-default}
-use lib.Seq.{take-at, drop-at, drop-drop, getD-drop, getD-take, length-take-le}
+use lib.Seq.{take-all, take-at, drop-at, drop-drop, getD-drop, getD-take, length-take-le}
 use Rattle.rows.specs.LittleEndian.{number, bytesOf, numberAt, AllBytes}
 use Rattle.rows.proofs.Laws.{length-bytesOf, number-bytesOf, bytesOf-number}
 use Rattle.jobfile.specs.Numbers.{bytesOfRow, rowIn, AllBelow}
+
+-- ---- a part
+
+-- what a part has that goes up to the end
+pub to-the-end : {A : Type 0} (at : ℕ) (row : List A) → take (length row - at) (drop at row) ≡ drop at row
+to-the-end at row = take-all (length row - at) (drop at row) (simp length-drop (omega arith))
 
 -- ---- one number
 

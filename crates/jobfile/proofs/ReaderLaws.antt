@@ -5,7 +5,7 @@
 --                       bodies-wrong, bodies-past, bodies-follow, bodies-good: how it ends
 --     the whole         judged-short, judged-long, judged-contents, judged-bodies
 --     one answer        read-once, judged-only, read-only, bodies-only, body-only
---     a good file       body-inside, good-judged, judged-good, passed-good
+--     a good file       body-inside, good-judged, judged-good, passed-good, good-number
 -- Assumes nothing.
 use mathlib.Core.Path.{_≡_, refl, sym, ap, ap₂, _∙_, subst}
 use mathlib.Core.Bool.{true, cond}
@@ -264,3 +264,10 @@ is-good (Body entry) e = never (cc)
 -- an answer that passes
 pub passed-good : {bytes : List ℕ} (r : FileAnswer) → Judged bytes r → passes r ≡ true → GoodFile bytes
 passed-good {bytes} r judged p = judged-good (subst (Judged bytes) (is-good r p) judged)
+
+-- an answer of number 0
+pub good-number : (r : FileAnswer) → numberOf r ≡ 0 → r ≡ Good
+good-number Good e = refl
+good-number File e = absurd (omega arith)
+good-number Contents e = absurd (omega arith)
+good-number (Body entry) e = absurd (omega arith)

@@ -5,7 +5,7 @@
 --     writer-writes-good         the writer writes only good files, with the sizes and bodies that it was sent
 --     good-read-written-again    a good file read and written again has the same bytes
 --     jobs-written, jobs-read-back    jobs written to a file are read back as the same jobs: sizes, words and pairs
---     body-size, job-body, job-words, job-pairs    how long a job's body is, and that what is taken out of it are that job's words and pairs
+--     body-size, body-words, body-pairs, job-body    how long a job's body is, what is taken out of it, and that this is that job
 --     read-sizes, read-count, read-length    which sizes count, that they are at most 128, and how long their row is
 --
 -- Two results that a public contract allows are equal: `read-only`, `bodies-only` and `body-only` (ReaderLaws.antt), `write-only`
@@ -19,9 +19,10 @@ use lib.ListN.{length, take, drop, getD, replicate, length-replicate, length-app
 use lib.Seq.{take-at, length-take-le}
 use borrow.Author.Tests.{lt-ltb}
 use Rattle.rows.specs.LittleEndian.{AllBytes}
+use Rattle.table.specs.Faults.{pairsOf}
 use Rattle.jobfile.specs.Numbers.{rowIn}
 use Rattle.jobfile.specs.File.{bodySize, countIn, wordsIn, pairsIn, bodyStart, bodyIn, sizesIn, bodiesIn, GoodFile, fileOf}
-use Rattle.jobfile.specs.Jobs.{FileJob, entriesOf, sizesOf, bodiesOf, fileOfJobs, Holdable, jobIn, jobsFrom, jobsIn}
+use Rattle.jobfile.specs.Jobs.{FileJob, sizesOf, bodiesOf, fileOfJobs, Holdable, jobIn, jobsFrom, jobsIn}
 use Rattle.jobfile.specs.Reader.{Judged, yieldedSizes, yieldedBodies, numberedBody, yieldedBody, inRow, Holds, ReadOf, BodiesOf, BodyOf}
 use Rattle.jobfile.specs.Writer.{WriteOf, left}
 use Rattle.jobfile.specs.Body.{taken}
@@ -30,12 +31,12 @@ use Rattle.jobfile.specs.declared.answers.FileAnswer.the-variants.{Good,
 use Rattle.jobfile.specs.declared.answers.WriteAnswer.{WriteAnswer}
 use Rattle.jobfile.specs.declared.answers.WriteAnswer.the-variants.{Written}
 use Rattle.jobfile.specs.declared.sizes.Sizes.{Sizes}
-use Rattle.jobfile.proofs.NumberLaws.{length-rowIn}
+use Rattle.jobfile.proofs.NumberLaws.{to-the-end}
 use Rattle.jobfile.proofs.FileLaws.{length-sizesFrom, next-start}
 use Rattle.jobfile.proofs.ReaderLaws.{judged-only, good-judged, judged-good, body-inside}
 use Rattle.jobfile.proofs.WriteAnswers.{written-writable, writable-written}
 use Rattle.jobfile.proofs.Written.{Writable, written-good, written-sizes, written-bodies, good-again, good-writable}
-use Rattle.jobfile.proofs.JobLaws.{entries-pairs, length-sizesOf, jobs-sum, jobs-back, row-in-front, row-front, drop-take, job-there}
+use Rattle.jobfile.proofs.JobLaws.{length-sizesOf, jobs-sum, jobs-back, row-in-front, row-front, drop-take, job-there}
 use Rattle.jobfile.proofs.TakenLaws.{taken-full}
 
 -- ---- the reader and the good files
@@ -120,45 +121,44 @@ jobs-read-back {jobs} h r =
 
 -- ---- a job taken out of its body
 
-module _ {bytes part : List ℕ} (good : GoodFile bytes) (k : ℕ) (there : k < countIn bytes) (b : BodyOf bytes (suc k) part) (d : FileJob) where
+module _ {bytes part : List ℕ} (good : GoodFile bytes) (k : ℕ) (there : k < countIn bytes) (b : BodyOf bytes (suc k) part) where
   pub body-size : length part ≡ bodySize (wordsIn bytes k) (pairsIn bytes k)
   body-size =
       let inside : bodySize (wordsIn bytes k) (pairsIn bytes k) ≤ length (drop (bodyStart bytes k) bytes) =
       simp length-drop (omega (arith, next-start bytes k refl refl refl, body-inside good k there)) in
       ap length (good-body good there b) ∙ length-take-le (bodySize (wordsIn bytes k) (pairsIn bytes k)) (drop (bodyStart bytes k) bytes) inside
 
-  -- job k of the file, by its own body
-  pub job-body : getD (jobsIn bytes) k d ≡ jobIn (wordsIn bytes k) (pairsIn bytes k) (drop (bodyStart bytes k) bytes)
-  unfolding bodyStart
-  job-body =
-      let way : 0 + k ≡ k = omega arith in
-      job-there (countIn bytes) 0 k bytes d there ∙ ap (λ (i : ℕ). jobIn (wordsIn bytes i) (pairsIn bytes i) (drop (bodyStart bytes i) bytes)) way
-
-  -- a row of at most n entries is filled with the job's first words ..
-  pub job-words : (row : List ℕ) → length row ≤ wordsIn bytes k → taken 4 part row ≡ take (length row) (getD (jobsIn bytes) k d .words)
-  job-words row h =
-      let n : ℕ = wordsIn bytes k in
-      let body : List ℕ = drop (bodyStart bytes k) bytes in
+  -- a row of at most n entries is filled with the first words of the body ..
+  pub body-words : (row : List ℕ) → length row ≤ wordsIn bytes k → taken 4 part row ≡ take (length row) (rowIn 4 (wordsIn bytes k) (bodyIn bytes k))
+  body-words row h =
       taken-full 4 part row (omega (arith, body-size))
-      ∙ row-front 4 (length row) n part h
-      ∙ ap (λ (l : List ℕ). take (length row) (rowIn 4 n l)) (good-body good there b)
-      ∙ ap (take (length row)) (row-in-front 4 n (bodySize n (pairsIn bytes k)) body (omega arith))
-      ∙ ap (λ (job : FileJob). take (length row) (job .words)) (sym job-body)
+      ∙ row-front 4 (length row) (wordsIn bytes k) part h
+      ∙ ap (λ (l : List ℕ). take (length row) (rowIn 4 (wordsIn bytes k) l)) (good-body good there b)
 
-  -- .. and one of at most 2p entries, from behind the words, with its first addresses
-  pub job-pairs : (row : List ℕ) → length row ≤ 2 * pairsIn bytes k
-      → taken 2 (drop (4 * wordsIn bytes k) part) row ≡ take (length row) (entriesOf (getD (jobsIn bytes) k d .pairs))
-  job-pairs row h =
-      let n : ℕ = wordsIn bytes k in
+  -- .. and one of at most 2p entries, from behind the n words, with its first addresses
+  pub body-pairs : {n : ℕ} (row : List ℕ) → n ≡ wordsIn bytes k → length row ≤ 2 * pairsIn bytes k
+      → taken 2 (take (length part - 4 * n) (drop (4 * n) part)) row ≡ take (length row) (rowIn 2 (2 * pairsIn bytes k) (drop (4 * wordsIn bytes k) (bodyIn bytes k)))
+  body-pairs {n} row words h =
       let p : ℕ = pairsIn bytes k in
-      let body : List ℕ = drop (bodyStart bytes k) bytes in
-      let cut : drop (4 * n) part ≡ take (bodySize n p - 4 * n) (drop (4 * n) body) = ap (drop (4 * n)) (good-body good there b) ∙ drop-take (4 * n) (bodySize n p) body in
-      taken-full 2 (drop (4 * n) part) row (omega (arith, body-size, length-drop (4 * n) part))
+      ap (λ (l : List ℕ). taken 2 l row) (to-the-end (4 * n) part)
+      ∙ taken-full 2 (drop (4 * n) part) row (omega (arith, body-size, length-drop (4 * n) part))
       ∙ row-front 2 (length row) (2 * p) (drop (4 * n) part) h
-      ∙ ap (λ (l : List ℕ). take (length row) (rowIn 2 (2 * p) l)) cut
-      ∙ ap (take (length row)) (row-in-front 2 (2 * p) (bodySize n p - 4 * n) (drop (4 * n) body) (omega arith))
-      ∙ ap (take (length row)) (sym (entries-pairs p (rowIn 2 (2 * p) (drop (4 * n) body)) (length-rowIn 2 (2 * p) (drop (4 * n) body))))
-      ∙ ap (λ (job : FileJob). take (length row) (entriesOf (job .pairs))) (sym job-body)
+      ∙ ap₂ (λ (m : ℕ) (l : List ℕ). take (length row) (rowIn 2 (2 * p) (drop (4 * m) l))) words (good-body good there b)
+
+-- job k of the file is what its own body holds
+pub job-body : (bytes : List ℕ) (k : ℕ) → k < countIn bytes → (d : FileJob) → getD (jobsIn bytes) k d ≡ jobIn (wordsIn bytes k) (pairsIn bytes k) (bodyIn bytes k)
+unfolding bodyStart
+job-body bytes k there d =
+    let n : ℕ = wordsIn bytes k in
+    let p : ℕ = pairsIn bytes k in
+    let onwards : List ℕ = drop (bodyStart bytes k) bytes in
+    let words : rowIn 4 n onwards ≡ rowIn 4 n (bodyIn bytes k) = sym (row-in-front 4 n (bodySize n p) onwards (omega arith)) in
+    let entries : rowIn 2 (2 * p) (drop (4 * n) onwards) ≡ rowIn 2 (2 * p) (drop (4 * n) (bodyIn bytes k)) =
+    sym (ap (rowIn 2 (2 * p)) (drop-take (4 * n) (bodySize n p) onwards) ∙ row-in-front 2 (2 * p) (bodySize n p - 4 * n) (drop (4 * n) onwards) (omega arith)) in
+    let way : 0 + k ≡ k = omega arith in
+    job-there (countIn bytes) 0 k bytes d there
+    ∙ ap (λ (i : ℕ). jobIn (wordsIn bytes i) (pairsIn bytes i) (drop (bodyStart bytes i) bytes)) way
+    ∙ ap₂ (λ (ws es : List ℕ). record { words = ws; pairs = pairsOf es }) words entries
 
 -- ---- the sizes that count
 

@@ -9,12 +9,13 @@ use native.Mathlib.Numerals.{add-one}
 use native.Mathlib.Omega.{arith}
 use mathlib.Core.List.{List, [], _∷_, _++_, append-assoc, append-nil}
 use lib.ListN.{length, take, drop, getD, length-append, length-drop, drop-of-length-le}
-use lib.Seq.{drop-cons, take-at, drop-at, take-add, take-all, drop-drop, length-take-le}
+use lib.Seq.{drop-cons, take-at, drop-at, take-add, drop-drop, length-take-le}
 use Rattle.rows.specs.LittleEndian.{bytesOf}
 use Rattle.rows.specs.Placed.{placed}
 use Rattle.rows.proofs.Laws.{length-bytesOf, length-placed, behind-stays, Built, built-none, built-all}
 use Rattle.jobfile.specs.File.{bodySize, contentsEnd, jobCount, bodiesSize, contentsOf}
 use Rattle.jobfile.specs.Writer.{frontOf, Fitted}
+use Rattle.jobfile.proofs.NumberLaws.{to-the-end}
 use Rattle.jobfile.proofs.FileLaws.{length-contentsOf}
 
 -- ---- one part after another
@@ -72,7 +73,7 @@ module _ {A : Type 0} where
   unfolding placed
   copied-behind at xs row {part} inside e =
       let size : length (drop at row) ≤ length row - at = simp length-drop (omega arith) in
-      let whole : take (length row - at) (drop at row) ≡ drop at row = take-all (length row - at) (drop at row) size in
+      let whole : take (length row - at) (drop at row) ≡ drop at row = to-the-end at row in
       let over : drop (length row - at) (drop at row) ≡ [] = drop-of-length-le (drop at row) size in
       rw (over, append-nil, e, whole, drop-drop (length xs) at row) (sym (append-assoc (take at row) xs (drop (at + length xs) row)))
 

@@ -8,8 +8,8 @@ use mathlib.Core.Logic.{_⊎_, inl, inr}
 use mathlib.Core.List.{List, [], _++_}
 use Prim.Native.Nat.{ℕ, zero, suc, _+_, _-_, _*_, _≤_, _<_}
 use native.Mathlib.Omega.{arith}
-use lib.ListN.{length, take, drop, replicate, length-drop, length-replicate, replicate-append-replicate}
-use lib.Seq.{take-all, drop-at}
+use lib.ListN.{length, take, drop, replicate, length-replicate, replicate-append-replicate}
+use lib.Seq.{drop-at}
 use borrow.Author.Tests.{lt-ltb, le-ltb}
 use Rattle.graphs.proofs.Classes.{never}
 use Rattle.jobfile.specs.File.{bodySize, contentsEnd, countIn, offsetIn, wordsIn, pairsIn, bodyStart, bodyIn, sizesIn, GoodFile}
@@ -17,6 +17,7 @@ use Rattle.jobfile.specs.Reader.{Judged, numberedBody, yieldedSizes, yie
 use Rattle.jobfile.specs.declared.answers.FileAnswer.{FileAnswer}
 use Rattle.jobfile.specs.declared.answers.FileAnswer.the-variants.{Good, File, Contents, Body}
 use Rattle.jobfile.specs.declared.sizes.Sizes.{Sizes}
+use Rattle.jobfile.proofs.NumberLaws.{to-the-end}
 use Rattle.jobfile.proofs.FileLaws.{length-sizesFrom, next-start}
 use Rattle.jobfile.proofs.ReaderLaws.{body-inside}
 
@@ -63,16 +64,11 @@ yield-no-sizes bytes (Body entry) p row count = record { numbers = row; counted 
 
 pub yield-bodies : {bytes : List ℕ} (r : FileAnswer) (start : ℕ) → Judged bytes r → passes r ≡ true → start ≡ contentsEnd (countIn bytes)
     → BodiesOf bytes (take (length bytes - start) (drop start bytes))
-yield-bodies {bytes} r start judged p e =
-    let size : length (drop start bytes) ≤ length bytes - start = simp length-drop (omega arith) in
-    record {
-      answer = r;
-      judged = judged;
-      yielded =
-          take-all (length bytes - start) (drop start bytes) size
-          ∙ ap (λ (i : ℕ). drop i bytes) e
-          ∙ sym (by-answer (λ q. yieldedBodies q bytes) r p);
-    }
+yield-bodies {bytes} r start judged p e = record {
+  answer = r;
+  judged = judged;
+  yielded = to-the-end start bytes ∙ ap (λ (i : ℕ). drop i bytes) e ∙ sym (by-answer (λ q. yieldedBodies q bytes) r p);
+}
 
 pub yield-no-bodies : {bytes : List ℕ} (r : FileAnswer) → Judged bytes r → passes r ≡ false → BodiesOf bytes []
 yield-no-bodies Good judged p = never (cc)

@@ -11,26 +11,25 @@ use Prim.Native.Nat.{ℕ, suc, _+_, _-_, _*_, _/_, _≤_, _<_}
 use native.Mathlib.Decide.{decLe}
 use native.Mathlib.Numerals.{add-one}
 use native.Mathlib.Omega.{arith}
-use lib.ListN.{length, take, drop, getD, length-drop}
+use lib.ListN.{length, take, drop, getD}
 use lib.Seq.{take-all}
 use Rattle.table.specs.Answers.{Answered}
 use Rattle.table.specs.Faults.{Fault, size-fault, room-fault, number, matchOrder}
 use Rattle.matcher.specs.Match.{numberOf, placeOf, jobOf, MatchOf}
 use Rattle.matcher.specs.declared.answer.Matched.{Matched}
 use Rattle.matcher.proofs.OneMatch.{match-only}
-use Rattle.jobfile.specs.File.{countIn, wordsIn, pairsIn, bodyStart, sizesIn, GoodFile}
+use Rattle.jobfile.specs.File.{countIn, wordsIn, pairsIn, bodyStart, bodyIn, sizesIn, GoodFile}
 use Rattle.jobfile.specs.Numbers.{rowIn}
 use Rattle.jobfile.specs.Body.{taken}
 use Rattle.jobfile.specs.Jobs.{FileJob, entriesOf}
 use Rattle.jobfile.specs.Reader.{ReadOf, BodyOf, numberOf as fileNumber}
 use Rattle.jobfile.specs.declared.answers.FileAnswer.{FileAnswer}
-use Rattle.jobfile.specs.declared.answers.FileAnswer.the-variants.{Good, File, Contents, Body}
 use Rattle.jobfile.specs.declared.sizes.Sizes.{Sizes}
 use Rattle.jobfile.proofs.NumberLaws.{length-rowIn}
-use Rattle.jobfile.proofs.FileLaws.{length-sizesFrom, words-there, pairs-there, next-start}
+use Rattle.jobfile.proofs.FileLaws.{length-sizesFrom, entry-in-sizes, next-start}
 use Rattle.jobfile.proofs.JobLaws.{entries-pairs}
-use Rattle.jobfile.proofs.ReaderLaws.{body-inside}
-use Rattle.jobfile.proofs.Theorems.{reader-accepts-good, good-sizes, body-size, job-body, job-words, job-pairs}
+use Rattle.jobfile.proofs.ReaderLaws.{body-inside, good-number}
+use Rattle.jobfile.proofs.Theorems.{reader-accepts-good, good-sizes, body-size, body-words, body-pairs, job-body}
 use Rattle.listing.specs.Listing.{Entered, jobAt, JobMatched}
 
 -- ---- what is copied and matched
@@ -43,29 +42,25 @@ module _ {file part : List ℕ} {k : ℕ} (entered : Entered file k) (body : Bod
   numbered = subst (λ (j : ℕ). BodyOf file j part) (add-one k) body
 
   pub part-size : length part ≡ 4 * wordsIn file k + 4 * pairsIn file k
-  part-size = body-size (entered .0) k (entered .1) numbered none
+  part-size = body-size (entered .0) k (entered .1) numbered
 
   pub words-loaded : (row : List ℕ) {after : List ℕ} → length row ≡ wordsIn file k → after ≡ taken 4 part row → after ≡ jobAt file k .words
   words-loaded row size e =
-      let job : FileJob = jobAt file k in
-      let long : length (job .words) ≡ wordsIn file k = ap (λ (j : FileJob). length (j .words)) (job-body (entered .0) k (entered .1) numbered none) ∙ length-rowIn 4 (wordsIn file k) (drop (bodyStart file k) file) in
-      e ∙ job-words (entered .0) k (entered .1) numbered none row (omega arith) ∙ take-all (length row) (job .words) (omega arith)
+      let n : ℕ = wordsIn file k in
+      e
+      ∙ body-words (entered .0) k (entered .1) numbered row (omega arith)
+      ∙ take-all (length row) (rowIn 4 n (bodyIn file k)) (omega (arith, length-rowIn 4 n (bodyIn file k)))
+      ∙ ap (λ (job : FileJob). job .words) (sym (job-body file k (entered .1) none))
 
   pub entries-loaded : {n : ℕ} (row : List ℕ) {after : List ℕ} → n ≡ wordsIn file k → length row ≡ 2 * pairsIn file k → after ≡ taken 2 (take (length part - 4 * n) (drop (4 * n) part)) row → after ≡ entriesOf (jobAt file k .pairs)
-  entries-loaded {n} row here size e =
-      let job : FileJob = jobAt file k in
+  entries-loaded row here size e =
       let p : ℕ = pairsIn file k in
-      let bytes : List ℕ = drop (4 * wordsIn file k) (drop (bodyStart file k) file) in
-      let long : length (entriesOf (job .pairs)) ≡ 2 * p =
-      ap (λ (j : FileJob). length (entriesOf (j .pairs))) (job-body (entered .0) k (entered .1) numbered none)
-      ∙ ap length (entries-pairs p (rowIn 2 (2 * p) bytes) (length-rowIn 2 (2 * p) bytes))
-      ∙ length-rowIn 2 (2 * p) bytes in
-      let rest : length (drop (4 * n) part) ≤ length part - 4 * n = simp length-drop (omega arith) in
+      let bytes : List ℕ = drop (4 * wordsIn file k) (bodyIn file k) in
       e
-      ∙ ap (λ (l : List ℕ). taken 2 l row) (take-all (length part - 4 * n) (drop (4 * n) part) rest)
-      ∙ ap (λ (i : ℕ). taken 2 (drop (4 * i) part) row) here
-      ∙ job-pairs (entered .0) k (entered .1) numbered none row (omega arith)
-      ∙ take-all (length row) (entriesOf (job .pairs)) (omega arith)
+      ∙ body-pairs (entered .0) k (entered .1) numbered row here (omega arith)
+      ∙ take-all (length row) (rowIn 2 (2 * p) bytes) (omega (arith, length-rowIn 2 (2 * p) bytes))
+      ∙ sym (entries-pairs p (rowIn 2 (2 * p) bytes) (length-rowIn 2 (2 * p) bytes))
+      ∙ ap (λ (job : FileJob). entriesOf (job .pairs)) (sym (job-body file k (entered .1) none))
 
 pub job-matched : {file table list class work class-after work-after : List ℕ} {k : ℕ} {answer : Matched} → table ≡ jobAt file k .words → list ≡ entriesOf (jobAt file k .pairs)
     → MatchOf table list class work answer class-after work-after → JobMatched file k class work answer table list class-after work-after
@@ -87,19 +82,13 @@ pub entry-sizes : {file sizes : List ℕ} {k : ℕ} → GoodFile file → sizes 
     → Entered file k × (getD sizes (2 * k) 0 ≡ wordsIn file k) × (getD sizes (2 * k + 1) 0 ≡ pairsIn file k)
 entry-sizes {file} {sizes} {k} good e h =
     let there : k < countIn file = omega (arith, ap length e, length-sizesFrom (countIn file) 0 file) in
-    let way : 0 + k ≡ k = omega arith in (
+    let held = entry-in-sizes file k there in (
       (good, there),
-      ap (λ (l : List ℕ). getD l (2 * k) 0) e ∙ words-there (countIn file) 0 k file there ∙ ap (wordsIn file) way,
-      ap (λ (l : List ℕ). getD l (2 * k + 1) 0) e ∙ pairs-there (countIn file) 0 k file there ∙ ap (pairsIn file) way,
+      ap (λ (l : List ℕ). getD l (2 * k) 0) e ∙ held .0,
+      ap (λ (l : List ℕ). getD l (2 * k + 1) 0) e ∙ held .1,
     )
 
 -- ---- the answers
-
-good-number : (answer : FileAnswer) → fileNumber answer ≡ 0 → answer ≡ Good
-good-number Good e = refl
-good-number File e = absurd (omega arith)
-good-number Contents e = absurd (omega arith)
-good-number (Body entry) e = absurd (omega arith)
 
 -- a file that is not refused is good, and its sizes are in the row
 pub good-listed : {file : List ℕ} {answer : FileAnswer} {sizes : Sizes} → ReadOf file answer sizes → fileNumber answer ≡ 0

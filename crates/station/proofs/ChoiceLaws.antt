@@ -16,10 +16,10 @@ use Rattle.jobfile.specs.File.{countIn, wordsIn, pairsIn, sizesIn, GoodFile}
 use Rattle.jobfile.specs.Faults.{Row as FileRow, ROOM as FILE-ROOM, FILE, CONTENTS, BODY, ReadFault, number as fileNumber, readOrder}
 use Rattle.jobfile.specs.Reader.{numberOf, placeOf, Judged, yieldedSizes, inRow, ReadOf}
 use Rattle.jobfile.specs.declared.answers.FileAnswer.{FileAnswer}
-use Rattle.jobfile.specs.declared.answers.FileAnswer.the-variants.{Good, File, Contents, Body}
+use Rattle.jobfile.specs.declared.answers.FileAnswer.the-variants.{Good}
 use Rattle.jobfile.specs.declared.sizes.Sizes.{Sizes}
-use Rattle.jobfile.proofs.FileLaws.{length-sizesFrom, words-there, pairs-there}
-use Rattle.jobfile.proofs.ReaderLaws.{read-once, good-judged, judged-good}
+use Rattle.jobfile.proofs.FileLaws.{length-sizesFrom, entry-in-sizes}
+use Rattle.jobfile.proofs.ReaderLaws.{read-once, good-judged, judged-good, good-number}
 use Rattle.station.specs.Host.{entryOf, wordsOf, jobOf, Row, of-file, JOB, SIZE, ROOM, of-match, number, HostFault, file-fault, job-fault, size-fault, room-fault, match-fault, earlyOrder, lateOrder, reportOf, writesNothing, HostOf}
 use Rattle.station.specs.Stages.{Sized, no-size, no-room, fits, Numbered, no-job, there, Early, Open, Choice}
 use Rattle.station.specs.declared.choice.Chosen.{Chosen}
@@ -126,28 +126,18 @@ pub numbered-there : {sizes : List ℕ} {jobs job room n p : ℕ} {chosen : Chos
     → Sized n p room chosen → Numbered sizes jobs job room chosen
 numbered-there {chosen = chosen} some-job inside e f s = there {chosen = chosen} some-job inside (rw (sym e, sym f) s)
 
-is-good : (answer : FileAnswer) → numberOf answer ≡ 0 → answer ≡ Good
-is-good Good e = refl
-is-good File e = absurd (omega arith)
-is-good Contents e = absurd (omega arith)
-is-good (Body entry) e = absurd (omega arith)
-
 pub chosen-numbered : {bytes : List ℕ} {job : ℕ} (room : List ℕ) {answer : FileAnswer} {sizes : Sizes} {r : ℕ} {chosen : Chosen} → ReadOf bytes answer sizes → r ≡ numberOf answer → r ≡ 0
     → Numbered (sizes .row) (sizes .count / 2) job (length room) chosen → Choice bytes job room chosen
 unfolding inRow
 chosen-numbered {bytes} {job} room {answer} {sizes} read e z by =
-    let is : answer ≡ Good = is-good answer (sym e ∙ z) in
+    let is : answer ≡ Good = good-number answer (sym e ∙ z) in
     let row : sizes .row ≡ inRow (sizesIn bytes) = read .yielded .numbers ∙ ap (λ (q : FileAnswer). inRow (yieldedSizes q bytes)) is in
     let counted : sizes .count ≡ length (sizesIn bytes) = read .yielded .counted ∙ ap (λ (q : FileAnswer). length (yieldedSizes q bytes)) is in
     let size : length (sizesIn bytes) ≡ 2 * countIn bytes = length-sizesFrom (countIn bytes) 0 bytes in
     let at : (i : ℕ) → i < 2 * countIn bytes → getD (sizes .row) i 0 ≡ getD (sizesIn bytes) i 0 =
     λ i h. ap (λ (l : List ℕ). getD l i 0) row ∙ List·getD-append (sizesIn bytes) (replicate (128 - length (sizesIn bytes)) 0) 0 i (omega arith) in
     numbered-choice bytes job room (judged-good (subst (Judged bytes) is (read .judged))) (sizes .row) (omega arith)
-    (λ k h.
-    let way : 0 + k ≡ k = omega arith in (
-      at (2 * k) (omega arith) ∙ words-there (countIn bytes) 0 k bytes h ∙ ap (wordsIn bytes) way,
-      at (2 * k + 1) (omega arith) ∙ pairs-there (countIn bytes) 0 k bytes h ∙ ap (pairsIn bytes) way,
-    ))
+    (λ k h. let held = entry-in-sizes bytes k h in (at (2 * k) (omega arith) ∙ held .0, at (2 * k + 1) (omega arith) ∙ held .1))
     by
 
 -- ---- these six write nothing

@@ -1,4 +1,4 @@
--- A job that the host call found. In order: its words and addresses, as they are copied out of its body (`body-size`,
+-- A job that the host call found. In order: its words and addresses, as they are copied out of its body (`part-size`,
 -- `words-copied`, `pairs-copied`); the match's answer as the host call's (`host-lent`); the rows
 -- that are lent for it (`lent-open`). Assumes nothing.
 use mathlib.Core.Path.{_≡_, refl, sym, ap, _∙_, subst}
@@ -8,7 +8,7 @@ use Prim.Native.Nat.{ℕ, zero, suc, _+_, _-_, _*_, _≤_, _<_, min}
 use native.Mathlib.Nat.{min-eq-left, min-eq-right}
 use native.Mathlib.Decide.{decLe}
 use native.Mathlib.Omega.{arith}
-use lib.ListN.{length, take, drop, replicate, length-drop, drop-of-length-le}
+use lib.ListN.{length, take, drop, replicate, drop-of-length-le}
 use lib.Seq.{take-all, length-take-le}
 use Rattle.rows.specs.Placed.{placed}
 use Rattle.graphs.specs.Partition.{ClassTable, joins}
@@ -20,16 +20,11 @@ use Rattle.matcher.specs.Match.{numberOf, placeOf, joinsOf, MatchOf}
 use Rattle.matcher.specs.declared.answer.Matched.{Matched}
 use Rattle.matcher.proofs.OneMatch.{refused-joins}
 use Rattle.matcher.proofs.Verdicts.{passed-none, late-cleared}
-use Rattle.jobfile.specs.Numbers.{rowIn}
-use Rattle.jobfile.specs.File.{bodySize, countIn, wordsIn, pairsIn, bodyStart, bodyIn}
+use Rattle.jobfile.specs.File.{countIn, pairsIn, bodyIn}
 use Rattle.jobfile.specs.Reader.{BodyOf}
 use Rattle.jobfile.specs.Body.{taken}
 use Rattle.jobfile.proofs.NumberLaws.{length-rowIn}
-use Rattle.jobfile.proofs.FileLaws.{next-start}
-use Rattle.jobfile.proofs.JobLaws.{row-front}
-use Rattle.jobfile.proofs.ReaderLaws.{body-inside}
-use Rattle.jobfile.proofs.TakenLaws.{taken-full}
-use Rattle.jobfile.proofs.Theorems.{good-body}
+use Rattle.jobfile.proofs.Theorems.{body-size, body-words, body-pairs}
 use Rattle.station.specs.Host.{entryOf, wordsOf, tableOf, listOf, jobOf, Row, of-match, number, HostFault, match-fault, earlyOrder, lateOrder, reportOf, HostOf}
 use Rattle.station.specs.Stages.{Open, Copyable, Lent}
 use Rattle.station.proofs.ReportLaws.{room-reported}
@@ -42,39 +37,22 @@ module _ {bytes : List ℕ} {job : ℕ} {table list part : List ℕ} (c : Copyab
   entry-there : entryOf job < countIn bytes
   entry-there = omega (arith, c .some-job, c .inside)
 
-  body-is : part ≡ bodyIn bytes (entryOf job)
-  body-is =
-      let way : job ≡ suc (entryOf job) = omega (arith, c .some-job) in
-      good-body (c .good) entry-there (subst (λ (j : ℕ). BodyOf bytes j part) way b)
+  numbered : BodyOf bytes (suc (entryOf job)) part
+  numbered = let way : job ≡ suc (entryOf job) = omega (arith, c .some-job) in subst (λ (j : ℕ). BodyOf bytes j part) way b
 
-  pub body-size : length part ≡ 4 * length table + 4 * pairsIn bytes (entryOf job)
-  body-size =
-      let k : ℕ = entryOf job in
-      let inside : bodySize (wordsIn bytes k) (pairsIn bytes k) ≤ length (drop (bodyStart bytes k) bytes) =
-      simp length-drop (omega (arith, next-start bytes k refl refl refl, body-inside (c .good) k entry-there)) in
-      ap length body-is
-      ∙ length-take-le (bodySize (wordsIn bytes k) (pairsIn bytes k)) (drop (bodyStart bytes k) bytes) inside
-      ∙ ap (λ (n : ℕ). 4 * n + 4 * pairsIn bytes k) (sym (c .words))
+  pub part-size : length part ≡ 4 * length table + 4 * pairsIn bytes (entryOf job)
+  part-size = omega (arith, body-size (c .good) (entryOf job) entry-there numbered, c .words)
 
   pub words-copied : {after : List ℕ} → after ≡ taken 4 part table → after ≡ tableOf bytes job
   words-copied e =
+      let n : ℕ = wordsOf bytes job in
       e
-      ∙ taken-full 4 part table (omega (arith, body-size))
-      ∙ ap (λ (m : ℕ). rowIn 4 m part) (c .words)
-      ∙ ap (rowIn 4 (wordsOf bytes job)) body-is
+      ∙ body-words (c .good) (entryOf job) entry-there numbered table (omega (arith, c .words))
+      ∙ take-all (length table) (tableOf bytes job) (omega (arith, c .words, length-rowIn 4 n (bodyIn bytes (entryOf job))))
 
   pub pairs-copied : {after : List ℕ} → after ≡ taken 2 (take (length part - 4 * length table) (drop (4 * length table) part)) list
       → after ≡ take (length list) (listOf bytes job)
-  pairs-copied e =
-      let start : ℕ = 4 * length table in
-      let p : ℕ = pairsIn bytes (entryOf job) in
-      let size : length (drop start part) ≤ length part - start = simp length-drop (omega arith) in
-      e
-      ∙ ap (λ (l : List ℕ). taken 2 l list) (take-all (length part - start) (drop start part) size)
-      ∙ taken-full 2 (drop start part) list (omega (arith, body-size, c .pairs, length-drop start part))
-      ∙ row-front 2 (length list) (2 * p) (drop start part) (c .pairs)
-      ∙ ap (λ (n : ℕ). take (length list) (rowIn 2 (2 * p) (drop (4 * n) part))) (c .words)
-      ∙ ap (λ (l : List ℕ). take (length list) (rowIn 2 (2 * p) (drop (4 * wordsOf bytes job) l))) body-is
+  pairs-copied e = e ∙ body-pairs (c .good) (entryOf job) entry-there numbered list (c .words) (c .pairs)
 
 -- ---- the match's answer
 

@@ -2,7 +2,7 @@
 -- Assumes nothing.
 use native.Mathlib.Omega.{arith}
 use borrow.Author.Needs.{needs}
-use Rattle.station.proofs.JobLaws.{body-size, words-copied, pairs-copied}
+use Rattle.station.proofs.JobLaws.{part-size, words-copied, pairs-copied}
 use Rattle.station.proofs.job.copy_job.Statement.{statement}
 use Rattle.station.proofs.job.copy_job.Tie as tie
 
@@ -19,13 +19,13 @@ sub-take-pairs : tie.Need-sub-take-pairs
 sub-take-pairs c =
     let s : tie.Start = search needs in
     let b : tie.After-body = search needs in
-    omega (arith, body-size (s .pre) (b .body .ensures))
+    omega (arith, part-size (s .pre) (b .body .ensures))
 
 part-take-pairs-start : tie.Need-part-take-pairs-start
 part-take-pairs-start c =
     let s : tie.Start = search needs in
     let b : tie.After-body = search needs in
-    omega (arith, body-size (s .pre) (b .body .ensures))
+    omega (arith, part-size (s .pre) (b .body .ensures))
 
 part-take-pairs-end : tie.Need-part-take-pairs-end
 part-take-pairs-end c = search needs
