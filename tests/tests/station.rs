@@ -143,6 +143,29 @@ fn sizes() {
     answered(&(vec![0], vec![]), ACCEPTED, 0, 0, &[0]);
 }
 
+/// The host call has rows for 64 words, for 512 and for 4,096, and for 257 pairs. Here a chain of
+/// variables hangs together from address 1 on.
+#[test]
+fn sizes_about_those_of_the_rows() {
+    for n in [63, 64, 65, 511, 512, 513, 4_095, 4_096] {
+        for pairs in [0, 63, 64, 65, 256, 257] {
+            let variables = n - 1;
+            let mut table: Vec<u32> = (0..n).map(variable).collect();
+            table[0] = 0;
+            let side = |k| k % variables + 1;
+            let list = (0..pairs).flat_map(|k| [side(k), side(k + 1)]).collect();
+            if pairs > 256 {
+                refused(&(table, list), LIST, 0);
+                continue;
+            }
+            let joins = pairs.min(variables - 1);
+            let mut classes: Vec<u16> = (0..n).collect();
+            classes[1..=usize::from(joins) + 1].fill(1);
+            answered(&(table, list), ACCEPTED, 0, joins, &classes);
+        }
+    }
+}
+
 #[test]
 fn room() {
     let file = file_of(&examples());

@@ -1,20 +1,10 @@
-// A job that the host call found: its words and addresses are copied out of the file, matched, and the answer is written
-// into the room.
+// A job of a file on lent rows: its words and addresses are copied out of the file, matched, and the answer is written into
+// the room.
 ghost use mathlib.Core.Path.{_≡_};
-ghost use Prim.Native.Nat.{_≤_, min};
 ghost use lib.ListN.{length, take};
 ghost use Rattle.station.specs.Host.{tableOf, listOf, HostOf};
-ghost use Rattle.station.specs.Stages.{Copyable, Lent, Open};
+ghost use Rattle.station.specs.Stages.{Copyable, Lent};
 use crate::report;
-
-// So many entries of a list are copied at most: one pair more than a list may hold, so that a longer list is refused too.
-const MOST_ENTRIES: usize = 514;
-
-fn least(a: usize, b: usize) -> usize
-    ensures { λ r. ⌜ (r ≡ min a b) × (r ≤ a) × (r ≤ b) ⌝ }
-{
-    if a < b { a } else { b }
-}
 
 // Copies the job's words into table, and its addresses into list, as many as have room.
 fn copy_job(file: &[u8], job: usize, table: &mut [u32], list: &mut [u16])
@@ -27,8 +17,8 @@ fn copy_job(file: &[u8], job: usize, table: &mut [u32], list: &mut [u16])
     jobfile::take_pairs(&body[start..], list);
 }
 
-// Matches the job on lent rows.
-fn match_lent(
+// Matches the job on rows of just the lengths that it has.
+pub(crate) fn match_lent(
     file: &[u8],
     job: usize,
     table: &mut [u32],
@@ -43,25 +33,4 @@ fn match_lent(
     copy_job(file, job, table, list);
     let answer = matcher::match_list(table, list, class, work);
     report::report(answer, class, room)
-}
-
-// Matches the job of n words and p pairs.
-pub(crate) fn match_found(file: &[u8], job: usize, n: usize, p: usize, room: &mut [u8]) -> u16
-    requires { ⌜ Open (now file) job n p (length (now room)) ⌝ }
-    ensures { λ r. ⌜ HostOf (now (file .entry)) job (now (room .entry)) r (now (room .exit)) ⌝ }
-{
-    let mut table = [0u32; 4096];
-    let mut list = [0u16; 514];
-    let mut class = [0u16; 4096];
-    let mut work = [0u16; 16384];
-    let entries = least(2 * p, MOST_ENTRIES);
-    match_lent(
-        file,
-        job,
-        &mut table[..n],
-        &mut list[..entries],
-        &mut class[..n],
-        &mut work[..4 * n],
-        room,
-    )
 }

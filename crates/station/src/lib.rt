@@ -5,6 +5,7 @@
 // that it is lent, and a theorem of proofs/Theorems.antt that it says so of one result only.
 mod checked;
 mod choice;
+mod found;
 mod job;
 mod matched;
 mod report;
@@ -22,9 +23,11 @@ use choice::Chosen;
 pub extern "C" fn station_match(file: &[u8], job: u32, room: &mut [u8]) -> u16
     ensures { λ r. ⌜ HostOf (now (file .entry)) job (now (room .entry)) r (now (room .exit)) ⌝ }
 {
+    // It stands before all tests for the compiler's sake: docs/DECISIONS.md, 'Rows by the size of a job'.
+    let mut list = [0u16; 514];
     match choice::choose(file, job as usize, room) {
         Chosen::Refused(number) => number,
-        Chosen::Found(n, p) => job::match_found(file, job as usize, n, p, room),
+        Chosen::Found(n, p) => { found::match_found(file, job as usize, n, p, &mut list, room) }
     }
 }
 

@@ -1,5 +1,6 @@
 -- `station::station_match` meets its contract.
 -- Assumes nothing.
+use mathlib.Core.Path.{refl}
 use borrow.Author.Needs.{needs}
 use Rattle.station.proofs.ChoiceLaws.{choice-refused, choice-found, refused-early}
 use Rattle.station.proofs.station_match.Statement.{statement}
@@ -14,11 +15,14 @@ enum-known-number c = search needs
 enum-known-n : tie.Need-enum-known-n
 enum-known-n c = search needs
 
+slice-aggregate-match-found : tie.Need-slice-aggregate-match-found
+slice-aggregate-match-found c = search needs
+
 match-found-requires : tie.Need-match-found-requires
 match-found-requires c κs =
     let s : tie.Start = search needs in
     let k : tie.After-choose = search needs in
-    choice-found (s .args .file .now) (s .args .job) (s .args .room .now) (k .choose .ensures) (c .before .before .n .given .1)
+    (choice-found (s .args .file .now) (s .args .job) (s .args .room .now) (k .choose .ensures) (c .before .before .before .n .given .1), refl)
 
 same-length : tie.Need-same-length
 same-length c = search needs
@@ -42,6 +46,7 @@ station-match-spec =
     choose-requires
     enum-known-number
     enum-known-n
+    slice-aggregate-match-found
     match-found-requires
     same-length
     returns
