@@ -47,6 +47,37 @@ fn each_file_is_on_the_page() {
     assert_eq!(files, named);
 }
 
+/// The answers in what a job file prints, in order.
+fn answers(block: &str) -> Vec<usize> {
+    block
+        .lines()
+        .map(|line| line.split(' ').collect::<Vec<_>>())
+        .filter(|fields| fields[0] != "v" && fields[0] != "job")
+        .map(|fields| fields[1].parse().expect("the answer is a number"))
+        .collect()
+}
+
+#[test]
+fn the_table_tells_the_answers() {
+    let page = read("examples/README.md");
+    let rows: Vec<&str> = page
+        .lines()
+        .filter(|line| line.contains(".job |"))
+        .collect();
+    let wanted: Vec<(String, String)> = told()
+        .iter()
+        .map(|(name, block)| {
+            let answers: Vec<String> = answers(block).iter().map(usize::to_string).collect();
+            (name.clone(), answers.join(", "))
+        })
+        .collect();
+    assert_eq!(rows.len(), wanted.len());
+    for (row, (name, answers)) in rows.iter().zip(wanted) {
+        let start = format!("| {name} | {answers} | ");
+        assert!(row.starts_with(&start), "{row} does not start with {start}");
+    }
+}
+
 /// host.c shows 2 and 15, and the job files each other number.
 #[test]
 fn each_number_is_shown() {
@@ -54,11 +85,8 @@ fn each_number_is_shown() {
     shown[2] = true;
     shown[15] = true;
     for (_, block) in told() {
-        for line in block.lines() {
-            let fields: Vec<&str> = line.split(' ').collect();
-            if fields[0] != "v" && fields[0] != "job" {
-                shown[fields[1].parse::<usize>().expect("the answer is a number")] = true;
-            }
+        for answer in answers(&block) {
+            shown[answer] = true;
         }
     }
     for (number, shown) in shown.iter().enumerate() {
