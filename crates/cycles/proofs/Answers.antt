@@ -1,5 +1,5 @@
 -- The answers of the search: a number met again on the path reaches itself (`closed`); with all marks at 0 the search can start
--- (`start`); where every name is begun and the path is empty, no number reaches itself (`none`). Assumes nothing.
+-- (`start`); where every walk from a name ends, no number reaches itself (`none`). Assumes nothing.
 use mathlib.Core.Path.{_≡_, sym, ap, _∙_, subst}
 use mathlib.Core.Bool.{true, false}
 use mathlib.Core.List.{List}
@@ -67,17 +67,19 @@ start N w room zeros =
       whole = λ x h b u. absurd (omega (arith, zeros x h));
     }
 
+-- From a number with no ways every walk ends.
+pub no-ways-safe : (N : Net) (x : ℕ) → N .count x ≡ 0 → Safe N x
+no-ways-safe N x none = safe {x = x} (λ y way. absurd (omega (arith, way .1)))
+
 -- Where the path is empty, what is begun is finished.
-begun-safe : {N : Net} {w : List ℕ} → Search N w 0 → (x : ℕ) → x < N .size → 0 < mark w x → Safe N x
+pub begun-safe : {N : Net} {w : List ℕ} → Search N w 0 → (x : ℕ) → x < N .size → 0 < mark w x → Safe N x
 begun-safe {N} {w} S x h b = go (decLe (mark w x) (N .count x + 1))
   where
     go : Dec (mark w x ≤ N .count x + 1) → Safe N x
     go (yes u) = absurd (let p : (k : ℕ) × (k < 0) × (onPath N w k ≡ x) = S .whole x h b u in omega (arith, p .1))
     go (no u) = finished-safe S x h (omega (arith, S .bounded x h))
 
--- Where the path is empty, and each number to which a way leads is begun, no number reaches itself.
-pub none : {N : Net} {w : List ℕ} → Search N w 0 → ((x y : ℕ) → Way N x y → y < N .size) → ((x y : ℕ) → Way N x y → 0 < mark w y)
-    → Returns false N
-none {N} {w} S inside begun x (one way) = safe-no-return (begun-safe S x (inside x x way) (begun x x way)) (one way)
-none {N} {w} S inside begun x (more {y = y} way rest) =
-    safe-no-return (begun-safe S y (inside x y way) (begun x y way)) (steps-snoc rest way)
+-- Where every walk ends from each number to which a way leads, no number reaches itself.
+pub none : {N : Net} → ((x y : ℕ) → Way N x y → Safe N y) → Returns false N
+none {N} ends x (one way) = safe-no-return (ends x x way) (one way)
+none {N} ends x (more {y = y} way rest) = safe-no-return (ends x y way) (steps-snoc rest way)

@@ -3,6 +3,7 @@ mod Totals
 mod Stores
 mod Moves
 mod Answers
+mod Passing
 mod Looks
 mod Roots
 pub mod Agree

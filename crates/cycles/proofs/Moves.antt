@@ -1,5 +1,5 @@
--- The moves of the search keep its invariant: a new number is begun (`begin`), a way was looked at (`advance`), and the number
--- at the end of the path is finished (`finish`). Each is `Moved`. Assumes nothing.
+-- The moves of the search keep its invariant: a new number is begun (`begin`), ways were passed over (`advance`), and the number
+-- at the end of the path is finished (`finish`). The first and the last are `Moved`. Assumes nothing.
 use mathlib.Core.Path.{_≡_, sym, ap, _∙_, subst}
 use mathlib.Core.List.{List}
 use Prim.Native.Nat.{ℕ, _+_, _-_, _≤_, _<_}
@@ -7,39 +7,39 @@ use native.Mathlib.Decide.{ℕ-discrete, decLt}
 use native.Mathlib.Omega.{arith}
 use lib.ListN.{set}
 use Rattle.cycles.specs.Net.{Net, Way}
-use Rattle.cycles.specs.Marks.{mark, onPath, Safe, safe, Search, Moved}
+use Rattle.cycles.specs.Marks.{mark, onPath, left, Safe, safe, Search, Grown, Moved}
 use Rattle.cycles.proofs.Totals.{total-part}
-use Rattle.cycles.proofs.Stores.{Raised, raised-mark, raised-push, pushed, raised-grown, raised-less, raised-begun, raised-new}
+use Rattle.cycles.proofs.Stores.{Raised, raised-mark, raised-push, pushed, raised-grown, raised-at-most, raised-less, raised-begun, raised-new}
 
 way-at : (N : Net) {x x′ y y′ : ℕ} → x′ ≡ x → y′ ≡ y → Way N x y → Way N x′ y′
 way-at N {x} {x′} {y} {y′} p q way =
     subst (λ (z : ℕ). Way N z y′) (sym p) (subst (λ (z : ℕ). Way N x z) (sym q) way)
 
 -- What a raised mark leaves of the path up to `depth`, if the raised number is not on it, or stays unfinished.
-module _ {N : Net} {before depth x : ℕ} {w w′ : List ℕ} (S : Search N w before) (within : depth ≤ before) (R : Raised N before x w w′) where
+module _ {N : Net} {before depth x m : ℕ} {w w′ : List ℕ} (S : Search N w before) (within : depth ≤ before) (R : Raised N before x m w w′) where
   marks-on-path : (k : ℕ) → k < depth → (onPath N w k ≡ x → ⊥) → mark w′ (onPath N w′ k) ≡ mark w (onPath N w k)
   marks-on-path k h other =
       ap (mark w′) (R .path k (omega arith)) ∙ R .others (onPath N w k) (S .inside k (omega arith)) other
 
-  bounded′ : mark w x < N .count x + 2 → (z : ℕ) → z < N .size → mark w′ z ≤ N .count z + 2
+  bounded′ : m ≤ N .count x + 2 → (z : ℕ) → z < N .size → mark w′ z ≤ N .count z + 2
   bounded′ h z i = go (ℕ-discrete z x)
     where
       go : Dec (z ≡ x) → mark w′ z ≤ N .count z + 2
-      go (yes e) = omega (arith, R .one, ap (mark w′) e, ap (N .count) e)
+      go (yes e) = omega (arith, R .new, ap (mark w′) e, ap (N .count) e)
       go (no e) = omega (arith, R .others z i e, S .bounded z i)
 
-  seen′ : ((i : ℕ) → i < N .count x → i ≡ mark w x - 1 → 0 < mark w x → Safe N (N .next x i))
+  seen′ : ((i : ℕ) → i < N .count x → mark w x ≤ i + 1 → i + 1 < m → Safe N (N .next x i))
       → (z i : ℕ) → z < N .size → i < N .count z → i + 1 < mark w′ z → Safe N (N .next z i)
-  seen′ last z i h j k = go (ℕ-discrete z x)
+  seen′ passed z i h j k = go (ℕ-discrete z x)
     where
-      at-x : (i < N .count x) → (i + 1 < mark w x + 1) → Dec (i + 1 < mark w x) → Safe N (N .next x i)
+      at-x : (i < N .count x) → (i + 1 < m) → Dec (i + 1 < mark w x) → Safe N (N .next x i)
       at-x j k (yes l) = S .seen x i (R .inside) j l
-      at-x j k (no l) = last i j (omega arith) (omega arith)
+      at-x j k (no l) = passed i j (omega arith) k
 
       go : Dec (z ≡ x) → Safe N (N .next z i)
       go (yes e) =
           subst (λ (y : ℕ). Safe N (N .next y i)) (sym e)
-          (at-x (omega (arith, ap (N .count) e)) (omega (arith, ap (mark w′) e, R .one)) (decLt (i + 1) (mark w x)))
+          (at-x (omega (arith, ap (N .count) e)) (omega (arith, ap (mark w′) e, R .new)) (decLt (i + 1) (mark w x)))
       go (no e) = S .seen z i h j (omega (arith, R .others z h e))
 
   inside′ : (k : ℕ) → k < depth → onPath N w′ k < N .size
@@ -54,22 +54,28 @@ module _ {N : Net} {before depth x : ℕ} {w w′ : List ℕ} (S : Search N w be
   distinct′ : (j k : ℕ) → j < k → k < depth → onPath N w′ j ≡ onPath N w′ k → ⊥
   distinct′ j k h i e = S .distinct j k h (omega arith) (sym (R .path j (omega arith)) ∙ e ∙ R .path k (omega arith))
 
+-- Ways were passed over: the path is as it was, and marks can be raised by no more than before.
+pub record Advanced (N : Net) (before after : List ℕ) (depth : ℕ) : Type 0 where
+  pub search : Search N after depth
+  pub grown : Grown N before after
+  pub at-most : left N after ≤ left N before
+
 -- From a finished number every walk ends.
 pub finished-safe : {N : Net} {w : List ℕ} {depth : ℕ} → Search N w depth → (x : ℕ) → x < N .size → mark w x ≡ N .count x + 2 → Safe N x
 finished-safe {N} {w} S x h m =
     safe (λ y way. subst (λ (z : ℕ). Safe N z) (way .2) (S .seen x (way .0) h (way .1) (omega (arith, way .1))))
 
 module _ {N : Net} {w : List ℕ} {depth : ℕ} (S : Search N w depth) where
-  -- The number at the end of the path has no way left: it is finished, and leaves the path.
-  pub finish : (x : ℕ) → 0 < depth → onPath N w (depth - 1) ≡ x → mark w x ≡ N .count x + 1
-      → Moved N w (set w x (mark w x + 1)) (depth - 1)
+  -- The number at the end of the path has passed over all its ways: it is finished, and leaves the path.
+  pub finish : (x : ℕ) → 0 < depth → onPath N w (depth - 1) ≡ x
+      → ((i : ℕ) → i < N .count x → mark w x ≤ i + 1 → Safe N (N .next x i)) → Moved N w (set w x (N .count x + 2)) (depth - 1)
   finish x some end all =
       record {
         search = record {
           room = omega (arith, S .room, R .long);
-          few = omega (arith, S .few, raised-begun R (omega arith));
+          few = omega (arith, S .few, raised-begun R begun);
           bounded = bounded′ S within R (omega arith);
-          seen = seen′ S within R (λ i h e b. absurd (omega arith));
+          seen = seen′ S within R (λ i h old new. all i h old);
           inside = inside′ S within R;
           begun = begun′ S within R;
           unfinished = λ k h. omega (arith, marks-on-path S within R k h (other k h), S .unfinished k (omega arith), ap (N .count) (R .path k (omega arith)));
@@ -78,11 +84,11 @@ module _ {N : Net} {w : List ℕ} {depth : ℕ} (S : Search N w depth) where
           whole = λ z h b u. whole′ z h b u (ℕ-discrete z x);
         };
         grown = raised-grown R;
-        less = raised-less R (omega arith);
+        less = raised-less R (omega (arith, unfinished)) (omega (arith, unfinished));
       }
     where
       w′ : List ℕ
-      w′ = set w x (mark w x + 1)
+      w′ = set w x (N .count x + 2)
 
       within : depth - 1 ≤ depth
       within = omega arith
@@ -90,15 +96,21 @@ module _ {N : Net} {w : List ℕ} {depth : ℕ} (S : Search N w depth) where
       inside : x < N .size
       inside = omega (arith, S .inside (depth - 1) (omega arith))
 
-      R : Raised N depth x w w′
-      R = raised-mark N depth x w inside (S .room)
+      begun : 0 < mark w x
+      begun = omega (arith, S .begun (depth - 1) (omega arith), ap (mark w) end)
+
+      unfinished : mark w x ≤ N .count x + 1
+      unfinished = omega (arith, S .unfinished (depth - 1) (omega arith), ap (mark w) end, ap (N .count) end)
+
+      R : Raised N depth x (N .count x + 2) w w′
+      R = raised-mark N depth x w inside (S .room) (N .count x + 2) (omega (arith, unfinished))
 
       other : (k : ℕ) → k < depth - 1 → onPath N w k ≡ x → ⊥
       other k h e = S .distinct k (depth - 1) h (omega arith) (e ∙ sym end)
 
       whole′ : (z : ℕ) → z < N .size → 0 < mark w′ z → mark w′ z ≤ N .count z + 1 → Dec (z ≡ x)
           → (k : ℕ) × (k < depth - 1) × (onPath N w′ k ≡ z)
-      whole′ z h b u (yes e) = absurd (omega (arith, R .one, ap (mark w′) e, ap (N .count) e))
+      whole′ z h b u (yes e) = absurd (omega (arith, R .new, ap (mark w′) e, ap (N .count) e))
       whole′ z h b u (no e) = shorter (S .whole z h (omega (arith, R .others z h e)) (omega (arith, R .others z h e)))
         where
           shorter : (k : ℕ) × (k < depth) × (onPath N w k ≡ z) → (k : ℕ) × (k < depth - 1) × (onPath N w′ k ≡ z)
@@ -114,16 +126,16 @@ module _ {N : Net} {w : List ℕ} {depth : ℕ} (S : Search N w depth) where
                   go (yes q) = absurd (e (last q))
                   go (no q) = omega (arith, p .1)
 
-  -- The way at the mark leads to a finished number: the number at the end of the path has looked at one way more.
-  pub advance : (x i : ℕ) → 0 < depth → onPath N w (depth - 1) ≡ x → mark w x ≡ i + 1 → i < N .count x → Safe N (N .next x i)
-      → Moved N w (set w x (mark w x + 1)) depth
-  advance x i some end looked more sure =
+  -- The number at the end of the path has passed over its ways before the one at place i.
+  pub advance : (x i : ℕ) → 0 < depth → onPath N w (depth - 1) ≡ x → mark w x ≤ i + 1 → i < N .count x
+      → ((k : ℕ) → mark w x ≤ k + 1 → k < i → Safe N (N .next x k)) → Advanced N w (set w x (i + 1)) depth
+  advance x i some end old more over =
       record {
         search = record {
           room = omega (arith, S .room, R .long);
-          few = omega (arith, S .few, raised-begun R (omega arith));
+          few = omega (arith, S .few, raised-begun R begun);
           bounded = bounded′ S within R (omega arith);
-          seen = seen′ S within R (λ j h e b. subst (λ (k : ℕ). Safe N (N .next x k)) (omega arith) sure);
+          seen = seen′ S within R (λ k h before new. over k before (omega arith));
           inside = inside′ S within R;
           begun = begun′ S within R;
           unfinished = λ k h. unfinished′ k h (ℕ-discrete (onPath N w k) x);
@@ -132,11 +144,11 @@ module _ {N : Net} {w : List ℕ} {depth : ℕ} (S : Search N w depth) where
           whole = λ z h b u. whole′ z h b u (ℕ-discrete z x);
         };
         grown = raised-grown R;
-        less = raised-less R (omega arith);
+        at-most = raised-at-most R;
       }
     where
       w′ : List ℕ
-      w′ = set w x (mark w x + 1)
+      w′ = set w x (i + 1)
 
       within : depth ≤ depth
       within = omega arith
@@ -144,13 +156,16 @@ module _ {N : Net} {w : List ℕ} {depth : ℕ} (S : Search N w depth) where
       inside : x < N .size
       inside = omega (arith, S .inside (depth - 1) (omega arith))
 
-      R : Raised N depth x w w′
-      R = raised-mark N depth x w inside (S .room)
+      begun : 0 < mark w x
+      begun = omega (arith, S .begun (depth - 1) (omega arith), ap (mark w) end)
+
+      R : Raised N depth x (i + 1) w w′
+      R = raised-mark N depth x w inside (S .room) (i + 1) old
 
       unfinished′ : (k : ℕ) → k < depth → Dec (onPath N w k ≡ x) → mark w′ (onPath N w′ k) ≤ N .count (onPath N w′ k) + 1
       unfinished′ k h (yes e) =
           let here : onPath N w′ k ≡ x = R .path k h ∙ e in
-          omega (arith, R .one, ap (mark w′) here, ap (N .count) here)
+          omega (arith, R .new, ap (mark w′) here, ap (N .count) here)
       unfinished′ k h (no e) =
           omega (arith, marks-on-path S within R k h e, S .unfinished k h, ap (N .count) (R .path k h))
 
@@ -164,18 +179,18 @@ module _ {N : Net} {w : List ℕ} {depth : ℕ} (S : Search N w depth) where
 
   -- the path has room for a new number
   pub path-room : (y : ℕ) → y < N .size → mark w y ≡ 0 → depth < N .size
-  path-room y inside new = omega (arith, total-part (λ x m. 1 - m) w y (N .size) inside, S .few)
+  path-room y inside fresh = omega (arith, total-part (λ x m. 1 - m) w y (N .size) inside, S .few)
 
   -- A new number, to which the end of the path leads if there is one, is begun.
   pub begin : (y : ℕ) → y < N .size → mark w y ≡ 0 → (0 < depth → Way N (onPath N w (depth - 1)) y)
       → Moved N w (set (set w y 1) (N .size + depth) y) (depth + 1)
-  begin y inside new way =
+  begin y inside fresh way =
       record {
         search = record {
           room = omega (arith, S .room, R .long);
-          few = omega (arith, S .few, raised-new R new);
+          few = omega (arith, S .few, raised-new R fresh (omega arith));
           bounded = bounded′ S within R (omega arith);
-          seen = seen′ S within R (λ i h e b. absurd (omega arith));
+          seen = seen′ S within R (λ i h old new. absurd (omega arith));
           inside = λ k h. inside″ k (decLt k depth) h;
           begun = λ k h. begun″ k (decLt k depth) h;
           unfinished = λ k h. unfinished″ k (decLt k depth) h;
@@ -184,7 +199,7 @@ module _ {N : Net} {w : List ℕ} {depth : ℕ} (S : Search N w depth) where
           whole = λ z h b u. whole″ z h b u (ℕ-discrete z y);
         };
         grown = raised-grown R;
-        less = raised-less R (omega arith);
+        less = raised-less R (omega arith) (omega arith);
       }
     where
       w′ : List ℕ
@@ -193,11 +208,11 @@ module _ {N : Net} {w : List ℕ} {depth : ℕ} (S : Search N w depth) where
       within : depth ≤ depth
       within = omega arith
 
-      R : Raised N depth y w w′
-      R = raised-push N depth y w inside (S .room) (path-room y inside new) new
+      R : Raised N depth y 1 w w′
+      R = raised-push N depth y w inside (S .room) (path-room y inside fresh) fresh
 
       last : onPath N w′ depth ≡ y
-      last = pushed N depth y w inside (S .room) (path-room y inside new)
+      last = pushed N depth y w inside (S .room) (path-room y inside fresh)
 
       at-last : (k : ℕ) → (k < depth → ⊥) → k < depth + 1 → onPath N w′ k ≡ y
       at-last k n h = ap (onPath N w′) (omega arith) ∙ last
@@ -211,12 +226,12 @@ module _ {N : Net} {w : List ℕ} {depth : ℕ} (S : Search N w depth) where
 
       begun″ : (k : ℕ) → Dec (k < depth) → k < depth + 1 → 0 < mark w′ (onPath N w′ k)
       begun″ k (yes l) h = begun′ S within R k l
-      begun″ k (no l) h = omega (arith, ap (mark w′) (at-last k l h), R .one)
+      begun″ k (no l) h = omega (arith, ap (mark w′) (at-last k l h), R .new)
 
       unfinished″ : (k : ℕ) → Dec (k < depth) → k < depth + 1 → mark w′ (onPath N w′ k) ≤ N .count (onPath N w′ k) + 1
       unfinished″ k (yes l) h =
           omega (arith, marks-on-path S within R k l (other k l), S .unfinished k l, ap (N .count) (R .path k l))
-      unfinished″ k (no l) h = omega (arith, ap (mark w′) (at-last k l h), R .one)
+      unfinished″ k (no l) h = omega (arith, ap (mark w′) (at-last k l h), R .new)
 
       linked″ : (k : ℕ) → Dec (k + 1 < depth) → k + 1 < depth + 1 → Way N (onPath N w′ k) (onPath N w′ (k + 1))
       linked″ k (yes l) h = linked′ S within R k l

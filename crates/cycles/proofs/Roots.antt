@@ -1,7 +1,7 @@
 -- The search from one root and from every name, put together from looks: a look's answer by its two cases (`looked-cycle`,
 -- `looked-path`), the root on the path (`rooted`, `root-begun`) and off it again (`ended`), what a visit says by its answer
--- (`visited`), the names visited so far (`Swept`, `visit-found`, `visit-passed`, `swept-all`), and the clearings before and after
--- (`ready`, `started`, `searched`). Assumes nothing.
+-- (`visited`, `passed-over`), the names visited so far (`Swept`, `visit-found`, `visit-passed`, `swept-all`), and the clearings
+-- before and after (`ready`, `started`, `searched`). Assumes nothing.
 use mathlib.Core.Path.{_≡_, sym, ap, _∙_, subst}
 use mathlib.Core.Bool.{Bool, true, false}
 use mathlib.Core.List.{List, _++_}
@@ -13,10 +13,10 @@ use Rattle.rows.proofs.Laws.{behind-cleared, cleared-zero}
 use Rattle.graphs.specs.Partition.{entry}
 use Rattle.cycles.specs.declared.path.Turn.{Turn}
 use Rattle.cycles.specs.Net.{Net, Way, netOf, Searchable, Searched}
-use Rattle.cycles.specs.Marks.{Ready, mark, onPath, Search, Grown, Moved, Stopped, Ended, Looked, Rooted, Visited, Told}
+use Rattle.cycles.specs.Marks.{Ready, mark, onPath, Safe, Search, Grown, Moved, Stopped, Ended, Looked, Rooted, Visited, Told}
 use Rattle.cycles.proofs.Stores.{pushed, grown-none, grown-join}
 use Rattle.cycles.proofs.Moves.{begin, path-room}
-use Rattle.cycles.proofs.Answers.{start, none}
+use Rattle.cycles.proofs.Answers.{start, none, begun-safe}
 
 -- ---- one root
 
@@ -41,13 +41,16 @@ module _ {N : Net} {w w′ : List ℕ} {root : ℕ} (S : Search N w 0) (inside :
       omega (arith, rooted .search .begun 0 (omega arith), ap (mark w′) end)
 
   -- the path is empty again
-  pub ended : {w″ : List ℕ} {depth : ℕ} → Search N w″ depth → Grown N w′ w″ → depth ≤ 0 → Ended N w w″ (0 < mark w″ root)
+  pub ended : {w″ : List ℕ} {depth : ℕ} → Search N w″ depth → Grown N w′ w″ → depth ≤ 0 → Ended N w w″ (Safe N root)
   ended {w″} {depth} T g empty =
       record {
-        search = subst (Search N w″) (omega arith) T;
+        search = empty-path;
         grown = grown-join (rooted .grown) g;
-        holds = omega (arith, root-begun, g .marks root inside);
+        holds = begun-safe empty-path root inside (omega (arith, root-begun, g .marks root inside));
       }
+    where
+      empty-path : Search N w″ 0
+      empty-path = subst (Search N w″) (omega arith) T
 
 -- ---- every name
 
@@ -55,15 +58,20 @@ pub visited : (N : Net) (row before after : List ℕ) (x : ℕ) (found : Bool) �
 visited N row before after x true stopped = stopped
 visited N row before after x false ended = record { search = ended .search; grown = ended .grown; holds = λ own. ended .holds }
 
--- All names below x are begun, and no cycle was found from them.
+-- x is passed over: every walk from it ends, or it is no name.
+pub passed-over : {N : Net} (row : List ℕ) {work : List ℕ} {x : ℕ} → Search N work 0 → (entry row x ≡ x → Safe N x)
+    → Visited N row work work x false
+passed-over row S ends = record { search = S; grown = grown-none; holds = ends }
+
+-- From all names below x every walk ends.
 pub record Swept (N : Net) (row before work : List ℕ) (x : ℕ) : Type 0 where
   pub search : Search N work 0
   pub grown : Grown N before work
   pub within : x ≤ N .size
-  pub begun : (z : ℕ) → z < x → entry row z ≡ z → 0 < mark work z
+  pub ends : (z : ℕ) → z < x → entry row z ≡ z → Safe N z
 
 pub swept-none : {N : Net} {row work : List ℕ} → Search N work 0 → Swept N row work work 0
-swept-none S = record { search = S; grown = grown-none; within = omega arith; begun = λ z h own. absurd (omega arith) }
+swept-none S = record { search = S; grown = grown-none; within = omega arith; ends = λ z h own. absurd (omega arith) }
 
 module _ {N : Net} {row before work after : List ℕ} {x : ℕ} {found : Bool} (swept : Swept N row before work x) (inside : x < N .size)
     (visit : Visited N row work after x found) where
@@ -78,22 +86,22 @@ module _ {N : Net} {row before work after : List ℕ} {x : ℕ} {found : Bool} (
         search = ended .search;
         grown = grown-join (swept .grown) (ended .grown);
         within = omega arith;
-        begun = λ z h own. go z h own (ℕ-discrete z x);
+        ends = λ z h own. go z h own (ℕ-discrete z x);
       }
     where
-      ended : Ended N work after (entry row x ≡ x → 0 < mark after x)
+      ended : Ended N work after (entry row x ≡ x → Safe N x)
       ended = subst (Visited N row work after x) e visit
 
-      go : (z : ℕ) → z < x + 1 → entry row z ≡ z → Dec (z ≡ x) → 0 < mark after z
-      go z h own (yes p) = omega (arith, ended .holds (sym (ap (entry row) p) ∙ own ∙ p), ap (mark after) p)
-      go z h own (no p) = omega (arith, swept .begun z (omega arith) own, ended .grown .marks z (omega arith))
+      go : (z : ℕ) → z < x + 1 → entry row z ≡ z → Dec (z ≡ x) → Safe N z
+      go z h own (yes p) = subst (Safe N) (sym p) (ended .holds (sym (ap (entry row) p) ∙ own ∙ p))
+      go z h own (no p) = swept .ends z (omega arith) own
 
--- Ways lead to names alone: with all names begun nothing is left to find.
+-- Ways lead to names alone: where every walk from a name ends, nothing is left to find.
 pub swept-all : {t row before work : List ℕ} {x : ℕ} → Ready t row → Swept (netOf t row) row before work x → length t ≤ x
     → Told (netOf t row) before work false
 swept-all {t} {row} {before} {work} {x} ready swept all =
     record {
-      truth = none (swept .search) inside (λ y z way. swept .begun z (omega (arith, inside y z way)) (named y z way));
+      truth = none (λ y z way. swept .ends z (omega (arith, inside y z way)) (named y z way));
       behind = swept .grown .behind;
     }
   where
@@ -120,19 +128,19 @@ module _ {t row : List ℕ} (work : List ℕ) (asked : Searchable t row (length 
       }
 
   -- after the first clearing
-  pub started : {work′ : List ℕ} → work′ ≡ replicate (2 * length t) 0 ++ drop (2 * length t) work → length work′ ≡ length work → Search (netOf t row) work′ 0
+  pub started : {work′ : List ℕ} → work′ ≡ replicate (length t) 0 ++ drop (length t) work → length work′ ≡ length work → Search (netOf t row) work′ 0
   started {work′} cleared long =
       start (netOf t row) work′ (omega (arith, asked .work-enough))
       (λ x h.
-      ap (λ (v : List ℕ). getD v x 0) cleared ∙ cleared-zero work (2 * length t) x (omega arith))
+      ap (λ (v : List ℕ). getD v x 0) cleared ∙ cleared-zero work (length t) x h)
 
 -- after the last one
-pub searched : {t row u v w x : List ℕ} {answer : Bool} → v ≡ replicate (2 * length t) 0 ++ drop (2 * length t) u
+pub searched : {t row u v w x : List ℕ} {answer : Bool} → v ≡ replicate (length t) 0 ++ drop (length t) u
     → Told (netOf t row) v w answer → x ≡ replicate (2 * length t) 0 ++ drop (2 * length t) w → Searched t row u answer x
 searched {t} {row} {u} {v} first told last =
     record {
       truth = told .truth;
-      cleared = last ∙ ap (λ (l : List ℕ). replicate n 0 ++ l) (told .behind ∙ ap (drop n) first ∙ behind-cleared u n n (omega arith));
+      cleared = last ∙ ap (λ (l : List ℕ). replicate n 0 ++ l) (told .behind ∙ ap (drop n) first ∙ behind-cleared u (length t) n (omega arith));
     }
   where
     n : ℕ

@@ -1,5 +1,5 @@
--- One mark raised by one: what every move of the search does to the work row. `Raised` says it, `raised-mark` and
--- `raised-push` show it of the two ways to store, and `grown` and `less` have what it does to all marks. Assumes nothing.
+-- One mark raised: what every move of the search does to the work row. `Raised` says it, `raised-mark` and `raised-push` show it
+-- of the two ways to store, and `raised-grown` and `raised-less` have what it does to all marks. Assumes nothing.
 use mathlib.Core.Path.{_≡_, refl, ap, _∙_}
 use mathlib.Core.List.{List}
 use Prim.Native.Nat.{ℕ, _+_, _-_, _*_, _≤_, _<_}
@@ -11,10 +11,11 @@ use Rattle.cycles.specs.Net.{Net}
 use Rattle.cycles.specs.Marks.{mark, onPath, left, news, Grown}
 use Rattle.cycles.proofs.Totals.{total-one}
 
--- The mark of x was raised by one. The other marks, the path below `depth` and what is behind it are as they were.
-pub record Raised (N : Net) (depth x : ℕ) (before after : List ℕ) : Type 0 where
+-- The mark of x is m and was at most that. The other marks, the path below `depth` and what is behind it are as they were.
+pub record Raised (N : Net) (depth x m : ℕ) (before after : List ℕ) : Type 0 where
   pub inside : x < N .size
-  pub one : mark after x ≡ mark before x + 1
+  pub new : mark after x ≡ m
+  pub old : mark before x ≤ m
   pub others : (z : ℕ) → z < N .size → (z ≡ x → ⊥) → mark after z ≡ mark before z
   pub path : (k : ℕ) → k < depth → onPath N after k ≡ onPath N before k
   pub behind : drop (2 * N .size) after ≡ drop (2 * N .size) before
@@ -33,27 +34,29 @@ grown-join g h =
 
 module _ (N : Net) (depth x : ℕ) (w : List ℕ) (inside : x < N .size) (room : 2 * N .size ≤ length w) where
   -- the mark alone is stored
-  pub raised-mark : Raised N depth x w (set w x (mark w x + 1))
-  raised-mark =
+  pub raised-mark : (m : ℕ) → mark w x ≤ m → Raised N depth x m w (set w x m)
+  raised-mark m old =
       record {
         inside = inside;
-        one = getD-set-same w x (mark w x + 1) 0 (omega arith);
-        others = λ z h other. getD-set-other w x z (mark w x + 1) 0 other;
-        path = λ k h. getD-set-other w x (N .size + k) (mark w x + 1) 0 (λ e. omega arith);
-        behind = drop-set-lt (2 * N .size) w x (mark w x + 1) (omega arith);
-        long = length-set w x (mark w x + 1);
+        new = getD-set-same w x m 0 (omega arith);
+        old = old;
+        others = λ z h other. getD-set-other w x z m 0 other;
+        path = λ k h. getD-set-other w x (N .size + k) m 0 (λ e. omega arith);
+        behind = drop-set-lt (2 * N .size) w x m (omega arith);
+        long = length-set w x m;
       }
 
   -- the mark of a new number is stored, and the number on the path
-  pub raised-push : depth < N .size → mark w x ≡ 0 → Raised N depth x w (set (set w x 1) (N .size + depth) x)
-  raised-push deep new =
+  pub raised-push : depth < N .size → mark w x ≡ 0 → Raised N depth x 1 w (set (set w x 1) (N .size + depth) x)
+  raised-push deep fresh =
       let w′ : List ℕ = set w x 1 in
       let w″ : List ℕ = set w′ (N .size + depth) x in
       let first : mark w′ x ≡ 1 = getD-set-same w x 1 0 (omega arith) in
       let kept : mark w″ x ≡ mark w′ x = getD-set-other w′ (N .size + depth) x x 0 (λ e. omega arith) in
       record {
         inside = inside;
-        one = kept ∙ first ∙ omega arith;
+        new = kept ∙ first;
+        old = omega arith;
         others = λ z h other. getD-set-other w′ (N .size + depth) z x 0 (λ e. omega arith) ∙ getD-set-other w x z 1 0 other;
         path = λ k h. getD-set-other w′ (N .size + depth) (N .size + k) x 0 (λ e. omega arith) ∙ getD-set-other w x (N .size + k) 1 0 (λ e. omega arith);
         behind = drop-set-lt (2 * N .size) w′ (N .size + depth) x (omega arith) ∙ drop-set-lt (2 * N .size) w x 1 (omega arith);
@@ -63,19 +66,25 @@ module _ (N : Net) (depth x : ℕ) (w : List ℕ) (inside : x < N .size) (room :
   pub pushed : depth < N .size → onPath N (set (set w x 1) (N .size + depth) x) depth ≡ x
   pushed deep = getD-set-same (set w x 1) (N .size + depth) x 0 (omega (arith, length-set w x 1))
 
-module _ {N : Net} {depth x : ℕ} {w w′ : List ℕ} (R : Raised N depth x w w′) where
+module _ {N : Net} {depth x m : ℕ} {w w′ : List ℕ} (R : Raised N depth x m w w′) where
   pub raised-grown : Grown N w w′
   raised-grown = record { long = R .long; marks = λ z h. go z h (ℕ-discrete z x); behind = R .behind }
     where
       go : (z : ℕ) → z < N .size → Dec (z ≡ x) → mark w z ≤ mark w′ z
-      go z h (yes e) = omega (arith, R .one, ap (mark w) e, ap (mark w′) e)
+      go z h (yes e) = omega (arith, R .new, R .old, ap (mark w) e, ap (mark w′) e)
       go z h (no e) = omega (arith, R .others z h e)
 
-  pub raised-less : mark w x < N .count x + 2 → left N w′ < left N w
-  raised-less h = omega (arith, total-one (λ y m. N .count y + 2 - m) w w′ x (N .size) (R .inside) (R .others), R .one)
+  fallen : left N w′ + (N .count x + 2 - mark w x) ≡ left N w + (N .count x + 2 - mark w′ x)
+  fallen = total-one (λ y k. N .count y + 2 - k) w w′ x (N .size) (R .inside) (R .others)
+
+  pub raised-at-most : left N w′ ≤ left N w
+  raised-at-most = omega (arith, fallen, R .new, R .old)
+
+  pub raised-less : mark w x < m → mark w x < N .count x + 2 → left N w′ < left N w
+  raised-less h i = omega (arith, fallen, R .new)
 
   pub raised-begun : 0 < mark w x → news N w′ ≡ news N w
-  raised-begun h = omega (arith, total-one (λ y m. 1 - m) w w′ x (N .size) (R .inside) (R .others), R .one)
+  raised-begun h = omega (arith, total-one (λ y k. 1 - k) w w′ x (N .size) (R .inside) (R .others), R .new, R .old)
 
-  pub raised-new : mark w x ≡ 0 → news N w′ + 1 ≡ news N w
-  raised-new h = omega (arith, total-one (λ y m. 1 - m) w w′ x (N .size) (R .inside) (R .others), R .one)
+  pub raised-new : mark w x ≡ 0 → 0 < m → news N w′ + 1 ≡ news N w
+  raised-new h i = omega (arith, total-one (λ y k. 1 - k) w w′ x (N .size) (R .inside) (R .others), R .new)

@@ -1,9 +1,11 @@
 -- What the steps of the search promise each other. The work row holds a mark for each number of the net, and behind the marks
--- the path, from the root of the search down to the number in hand. A mark is 0 for a new number; 1 + the ways looked at, while
--- the number is on the path; and the count of its ways + 2 once it is finished. For this crate alone. Assumes nothing.
+-- the path, from the root of the search down to the number in hand. A mark is 0 for a new number; 1 + the ways passed over,
+-- while the number is on the path; and the count of its ways + 2 once it is finished. A number with no ways stays new. For this
+-- crate alone. Assumes nothing.
 use mathlib.Core.Path.{_≡_}
 use mathlib.Core.Bool.{Bool, true, false}
 use mathlib.Core.List.{List}
+use mathlib.Core.Logic.{_⊎_}
 use Prim.Native.Nat.{ℕ, zero, suc, _+_, _-_, _*_, _≤_, _<_}
 use lib.ListN.{length, getD, drop}
 use Rattle.graphs.specs.Partition.{entry}
@@ -35,7 +37,7 @@ total f work (suc k) = f k (mark work k) + total f work k
 abbrev pub news : Net → List ℕ → ℕ
 news N work = total (λ x m. 1 - m) work (N .size)
 
--- how often a mark can still be raised
+-- by how much marks can still be raised
 abbrev pub left : Net → List ℕ → ℕ
 left N work = total (λ x m. N .count x + 2 - m) work (N .size)
 
@@ -45,7 +47,7 @@ pub record Search (N : Net) (work : List ℕ) (depth : ℕ) : Type 0 where
   -- new numbers and those on the path are different ones
   pub few : news N work + depth ≤ N .size
   pub bounded : (x : ℕ) → x < N .size → mark work x ≤ N .count x + 2
-  -- the ways looked at lead to numbers from which every walk ends
+  -- the ways passed over lead to numbers from which every walk ends
   pub seen : (x i : ℕ) → x < N .size → i < N .count x → i + 1 < mark work x → Safe N (N .next x i)
   pub inside : (k : ℕ) → k < depth → onPath N work k < N .size
   pub begun : (k : ℕ) → k < depth → 0 < mark work (onPath N work k)
@@ -83,23 +85,44 @@ abbrev pub Looked : Net → List ℕ → List ℕ → Turn → Type 0
 Looked N before after Turn.Cycle = Stopped N before after
 Looked N before after (Turn.Path depth) = Moved N before after depth
 
--- The search has x at the end of its path, and of x's ways the one at place i is the next to be looked at.
+-- Whether a number is open, by the count of its ways and its mark: it has ways, and is not finished.
+abbrev pub Open : ℕ → ℕ → Bool → Type 0
+Open count m true = (0 < count) × (m ≡ count + 2 → ⊥)
+Open count m false = (count ≡ 0) ⊎ (m ≡ count + 2)
+
+-- What passing over ways asks of the marks: every number has one, and from a finished number every walk ends.
+pub record Sure (N : Net) (work : List ℕ) : Type 0 where
+  pub room : N .size ≤ length work
+  pub finished : (x : ℕ) → x < N .size → mark work x ≡ N .count x + 2 → Safe N x
+
+-- The ways of x from place i up to j lead to numbers from which every walk ends.
+pub record Over (N : Net) (x i j : ℕ) : Type 0 where
+  pub from : i ≤ j
+  pub within : j ≤ N .count x
+  pub ends : (k : ℕ) → i ≤ k → k < j → Safe N (N .next x k)
+
+-- The ways of x from place i up to j are passed over, and the one at j, if there is one, leads to an open number.
+pub record Passed (N : Net) (work : List ℕ) (x i j : ℕ) : Type 0 where
+  pub over : Over N x i j
+  pub stops : j < N .count x → Open (N .count (N .next x j)) (mark work (N .next x j)) true
+
+-- The search has x at the end of its path, and of x's ways the one at place i is the first to be followed.
 pub record Facing (N : Net) (work : List ℕ) (depth x i : ℕ) : Type 0 where
   pub search : Search N work depth
   pub some : 0 < depth
   pub end : onPath N work (depth - 1) ≡ x
-  pub looked : mark work x ≡ i + 1
+  pub passed : Passed N work x (mark work x - 1) i
   pub more : i < N .count x
 
--- What the search from one root does: it found a cycle, or all that it began is finished.
+-- What the search from one root does: it found a cycle, or every walk from the root ends.
 abbrev pub Rooted : Net → List ℕ → List ℕ → ℕ → Bool → Type 0
 Rooted N before after root true = Stopped N before after
-Rooted N before after root false = Ended N before after (0 < mark after root)
+Rooted N before after root false = Ended N before after (Safe N root)
 
 -- What a visit of x does: the same, but x is passed over where it is not the name of its class.
 abbrev pub Visited : Net → List ℕ → List ℕ → List ℕ → ℕ → Bool → Type 0
 Visited N row before after x true = Stopped N before after
-Visited N row before after x false = Ended N before after (entry row x ≡ x → 0 < mark after x)
+Visited N row before after x false = Ended N before after (entry row x ≡ x → Safe N x)
 
 -- What the search from every name does.
 pub record Told (N : Net) (before after : List ℕ) (answer : Bool) : Type 0 where

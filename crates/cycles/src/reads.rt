@@ -1,6 +1,6 @@
 // The rows and the net, in numbers of one width.
 ghost use mathlib.Core.Path.{_≡_};
-ghost use Prim.Native.Nat.{_+_, _<_, _≤_};
+ghost use Prim.Native.Nat.{_<_, _≤_};
 ghost use lib.ListN.{length, getD, set};
 ghost use Rattle.graphs.specs.Partition.{entry};
 ghost use Rattle.table.specs.Table.{degree, childOf, Laid};
@@ -21,14 +21,6 @@ pub fn put(row: &mut [u16], i: usize, v: usize)
     ensures { λ _. ⌜ now (row .exit) ≡ set (now (row .entry)) i v ⌝ }
 {
     row[i] = v as u16;
-}
-
-// Raises the entry of a row at i by one.
-pub fn raise(row: &mut [u16], i: usize)
-    requires { ⌜ (i < length (now row)) × (getD (now row) i 0 < 65535) ⌝ }
-    ensures { λ _. ⌜ now (row .exit) ≡ set (now (row .entry)) i (getD (now (row .entry)) i 0 + 1) ⌝ }
-{
-    put(row, i, at(row, i) + 1);
 }
 
 // How many ways lead from x.

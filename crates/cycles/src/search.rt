@@ -8,7 +8,7 @@ use crate::path;
 use crate::path::Turn;
 use crate::reads;
 
-// Whether a cycle is found from a new number. If not, all that can be reached from it is finished.
+// Whether a cycle is found from a new number. If not, every walk from it ends.
 fn from_root(table: &[u32], class: &[u16], work: &mut [u16], root: usize) -> bool
     requires { ⌜ Ready (now table) (now class) × Search (netOf (now table) (now class)) (now work) 0 × (root < length (now table)) × (mark (now work) root ≡ 0) ⌝ }
     ensures { λ r. ⌜ Rooted (netOf (now (table .entry)) (now (class .entry))) (now (work .entry)) (now (work .exit)) root r ⌝ }
@@ -24,16 +24,19 @@ fn from_root(table: &[u32], class: &[u16], work: &mut [u16], root: usize) -> boo
     false
 }
 
-// The search from x, if x is the name of its class and is new. Ways lead to names alone, so no cycle
-// passes through any other number.
+// The search from x, if x has ways, is new and is the name of its class. Ways lead to names alone, so
+// no cycle passes through any other number.
 fn visit(table: &[u32], class: &[u16], work: &mut [u16], x: usize) -> bool
     requires { ⌜ Ready (now table) (now class) × Search (netOf (now table) (now class)) (now work) 0 × (x < length (now table)) ⌝ }
     ensures { λ r. ⌜ Visited (netOf (now (table .entry)) (now (class .entry))) (now (class .entry)) (now (work .entry)) (now (work .exit)) x r ⌝ }
 {
-    if reads::at(class, x) != x {
+    if reads::ways(table, x) == 0 {
         return false;
     }
     if reads::at(work, x) != 0 {
+        return false;
+    }
+    if reads::at(class, x) != x {
         return false;
     }
     from_root(table, class, work, x)
@@ -63,7 +66,7 @@ pub fn reaches_itself(table: &[u32], class: &[u16], work: &mut [u16]) -> bool
     requires { ⌜ Searchable (now table) (now class) (length (now work)) ⌝ }
     ensures { λ r. ⌜ Searched (now (table .entry)) (now (class .entry)) (now (work .entry)) r (now (work .exit)) ⌝ }
 {
-    rows::clear16(work, 2 * table.len()); // old contents never count
+    rows::clear16(work, table.len()); // old marks never count; the path is written before it is read
     let found = from_each(table, class, work);
     rows::clear16(work, 2 * table.len()); // and none are left
     found

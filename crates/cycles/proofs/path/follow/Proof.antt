@@ -1,10 +1,9 @@
--- `cycles::path::follow` meets its contract. Its three ways out are `new`, `closing` and `passed` of proofs/Looks.antt, each from what was
--- read on the way: where the way leads, and the mark and the count of ways there. Assumes nothing.
-use mathlib.Core.Path.{sym, ap, _∙_}
-use Prim.Native.Nat.{_+_}
+-- `cycles::path::follow` meets its contract. Its two ways out are `closing` and `new` of proofs/Looks.antt, each from what was read on the
+-- way: where the way leads, and the mark there. Assumes nothing.
+use mathlib.Core.Path.{sym, _∙_}
 use native.Mathlib.Omega.{arith}
 use borrow.Author.Needs.{needs}
-use Rattle.cycles.proofs.Looks.{end-inside, there, room-there, new, closing, passed}
+use Rattle.cycles.proofs.Looks.{end-inside, there, room-there, new, closing}
 use Rattle.cycles.proofs.path.follow.Statement.{statement}
 use Rattle.cycles.proofs.path.follow.Tie as tie
 
@@ -27,18 +26,6 @@ at-requires c κs =
     let n : tie.After-next = search needs in
     omega (arith, there (p .pre .0) (p .pre .1) (n .next .ensures), p .pre .1 .search .room)
 
-push-requires : tie.Need-push-requires
-push-requires c κs =
-    let p : tie.Start = search needs in
-    let n : tie.After-next = search needs in
-    let a : tie.After-at = search needs in
-    let b : tie.Then1 = search needs in
-    let room : _ = room-there (p .pre .0) (p .pre .1) (n .next .ensures) (sym (a .at .ensures) ∙ b .if1 .taken) in
-    (omega (arith, p .pre .1 .search .room, room), there (p .pre .0) (p .pre .1) (n .next .ensures), p .pre .0 .small)
-
-add-t15 : tie.Need-add-t15
-add-t15 c = search needs
-
 same-length : tie.Need-same-length
 same-length c = search needs
 
@@ -47,21 +34,31 @@ returns c =
     let p : tie.Start = search needs in
     let n : tie.After-next = search needs in
     let a : tie.After-at = search needs in
-    let b : tie.Then1 = search needs in
-    let e : tie.After-push = search needs in
-    new (p .pre .0) (p .pre .1) (n .next .ensures) _ (sym (a .at .ensures) ∙ b .if1 .taken) (e .push .ensures)
+    closing (p .pre .0) (p .pre .1) (n .next .ensures) (λ e. c .if1 .taken (a .at .ensures ∙ e))
 
-ways-requires : tie.Need-ways-requires
-ways-requires c κs =
+add-put : tie.Need-add-put
+add-put c =
+    let p : tie.Start = search needs in
+    omega (arith, p .pre .1 .more, p .pre .0 .counts (p .args .x))
+
+put-requires : tie.Need-put-requires
+put-requires c κs =
+    let p : tie.Start = search needs in
+    let x : _ = end-inside (p .pre .1 .search) (p .pre .1 .some) (sym (p .pre .1 .end)) in
+    (omega (arith, x, p .pre .1 .search .room), omega (arith, p .pre .1 .more, p .pre .0 .counts (p .args .x)))
+
+push-requires : tie.Need-push-requires
+push-requires c κs =
     let p : tie.Start = search needs in
     let n : tie.After-next = search needs in
-    (p .pre .0 .laid, p .pre .0 .small, there (p .pre .0) (p .pre .1) (n .next .ensures))
+    let a : tie.After-at = search needs in
+    let k : tie.After-put = search needs in
+    let b : tie.Else1 = k .before .before in
+    let room : _ = room-there (p .pre .0) (p .pre .1) (n .next .ensures) (sym (a .at .ensures) ∙ b .if1 .left) in
+    (omega (arith, p .pre .1 .search .room, room, k .put .kept .0), there (p .pre .0) (p .pre .1) (n .next .ensures), p .pre .0 .small)
 
-add-if2 : tie.Need-add-if2
-add-if2 c =
-    let p : tie.Start = search needs in
-    let n : tie.After-next = search needs in
-    omega (arith, c .ways .ensures, p .pre .0 .counts (n .next .result))
+add-t8 : tie.Need-add-t8
+add-t8 c = search needs
 
 same-length-2 : tie.Need-same-length-2
 same-length-2 c = search needs
@@ -71,29 +68,10 @@ returns-2 c =
     let p : tie.Start = search needs in
     let n : tie.After-next = search needs in
     let a : tie.After-at = search needs in
-    let b : tie.Else1 = search needs in
-    let w : tie.After-ways = search needs in
-    closing (p .pre .0) (p .pre .1) (n .next .ensures) (λ e. b .if1 .left (a .at .ensures ∙ e))
-    (λ e. c .if2 .taken (a .at .ensures ∙ e ∙ sym (ap (λ k. k + 2) (w .ways .ensures))))
-
-raise-requires : tie.Need-raise-requires
-raise-requires c κs =
-    let p : tie.Start = search needs in
-    let x : _ = end-inside (p .pre .1 .search) (p .pre .1 .some) (sym (p .pre .1 .end)) in
-    (omega (arith, x, p .pre .1 .search .room), omega (arith, p .pre .1 .looked, p .pre .1 .more, p .pre .0 .counts (p .args .x)))
-
-same-length-3 : tie.Need-same-length-3
-same-length-3 c = search needs
-
-returns-3 : tie.Need-returns-3
-returns-3 c =
-    let p : tie.Start = search needs in
-    let n : tie.After-next = search needs in
-    let a : tie.After-at = search needs in
-    let w : tie.After-ways = search needs in
-    let b : tie.Else2 = search needs in
-    let e : tie.After-raise = search needs in
-    passed (p .pre .0) (p .pre .1) (n .next .ensures) _ (sym (a .at .ensures) ∙ b .if2 .left ∙ ap (λ k. k + 2) (w .ways .ensures)) (e .raise .ensures)
+    let k : tie.After-put = search needs in
+    let b : tie.Else1 = k .before .before in
+    let e : tie.After-push = search needs in
+    new (p .pre .0) (p .pre .1) (n .next .ensures) _ _ (sym (a .at .ensures) ∙ b .if1 .left) (k .put .ensures) (e .push .ensures)
 
 pub follow-spec : {M : Type 1} → statement M
 follow-spec =
@@ -101,14 +79,11 @@ follow-spec =
     (tie.spec
     next-requires
     at-requires
-    push-requires
-    add-t15
     same-length
     returns
-    ways-requires
-    add-if2
+    add-put
+    put-requires
+    push-requires
+    add-t8
     same-length-2
-    returns-2
-    raise-requires
-    same-length-3
-    returns-3)
+    returns-2)

@@ -1,9 +1,10 @@
--- `cycles::path::look` meets its contract: the number at the end of the path has a way left, and that is followed, or it leaves the path
+-- `cycles::path::look` meets its contract: the number at the end of the path has a way left that must be followed, or it leaves the path
 -- (`leaving`, proofs/Looks.antt). Assumes nothing.
 use mathlib.Core.Path.{sym}
 use native.Mathlib.Omega.{arith}
 use borrow.Author.Needs.{needs}
-use Rattle.cycles.proofs.Looks.{end-inside, end-begun, end-unfinished, leaving}
+use Rattle.cycles.proofs.Passing.{sure}
+use Rattle.cycles.proofs.Looks.{end-inside, end-begun, end-unfinished, passed-from, leaving}
 use Rattle.cycles.proofs.path.look.Statement.{statement}
 use Rattle.cycles.proofs.path.look.Tie as tie
 
@@ -22,11 +23,19 @@ at-requires-2 c κs =
     let a : tie.After-at = search needs in
     omega (arith, end-inside (p .pre .1) (p .pre .2) (a .at .ensures), p .pre .1 .room)
 
-sub-looked : tie.Need-sub-looked
-sub-looked c =
+sub-pass-over : tie.Need-sub-pass-over
+sub-pass-over c =
     let p : tie.Start = search needs in
     let a : tie.After-at = search needs in
     omega (arith, end-begun (p .pre .1) (p .pre .2) (a .at .ensures), c .at2 .ensures)
+
+pass-over-requires : tie.Need-pass-over-requires
+pass-over-requires c κs =
+    let p : tie.Start = search needs in
+    let a : tie.After-at = search needs in
+    let m : tie.After-at2 = search needs in
+    let unfinished : _ = end-unfinished (p .pre .1) (p .pre .2) (a .at .ensures) in
+    (p .pre .0, sure (p .pre .1), end-inside (p .pre .1) (p .pre .2) (a .at .ensures), omega (arith, unfinished, m .at2 .ensures))
 
 ways-requires : tie.Need-ways-requires
 ways-requires c κs =
@@ -39,6 +48,7 @@ follow-requires c κs =
     let p : tie.Start = search needs in
     let a : tie.After-at = search needs in
     let m : tie.After-at2 = search needs in
+    let o : tie.After-pass-over = search needs in
     let w : tie.After-ways = search needs in
     let b : tie.Then1 = search needs in (
       p .pre .0,
@@ -46,7 +56,7 @@ follow-requires c κs =
         search = p .pre .1;
         some = p .pre .2;
         end = sym (a .at .ensures);
-        looked = omega (arith, end-begun (p .pre .1) (p .pre .2) (a .at .ensures), m .at2 .ensures);
+        passed = passed-from (m .at2 .ensures) (o .pass-over .ensures);
         more = omega (arith, b .if1 .taken, w .ways .ensures);
       },
     )
@@ -57,16 +67,23 @@ same-length c = search needs
 returns : tie.Need-returns
 returns c = search needs
 
-raise-requires : tie.Need-raise-requires
-raise-requires c κs =
+add-put : tie.Need-add-put
+add-put c =
     let p : tie.Start = search needs in
     let a : tie.After-at = search needs in
-    let inside : _ = end-inside (p .pre .1) (p .pre .2) (a .at .ensures) in
-    let unfinished : _ = end-unfinished (p .pre .1) (p .pre .2) (a .at .ensures) in
-    (omega (arith, inside, p .pre .1 .room), omega (arith, unfinished, p .pre .0 .counts (a .at .result)))
+    let w : tie.After-ways = search needs in
+    omega (arith, w .ways .ensures, p .pre .0 .counts (a .at .result))
 
-sub-t9 : tie.Need-sub-t9
-sub-t9 c = search needs
+put-requires : tie.Need-put-requires
+put-requires c κs =
+    let p : tie.Start = search needs in
+    let a : tie.After-at = search needs in
+    let w : tie.After-ways = search needs in
+    let inside : _ = end-inside (p .pre .1) (p .pre .2) (a .at .ensures) in
+    (omega (arith, inside, p .pre .1 .room), omega (arith, w .ways .ensures, p .pre .0 .counts (a .at .result)))
+
+sub-t10 : tie.Need-sub-t10
+sub-t10 c = search needs
 
 same-length-2 : tie.Need-same-length-2
 same-length-2 c = search needs
@@ -76,10 +93,11 @@ returns-2 c =
     let p : tie.Start = search needs in
     let a : tie.After-at = search needs in
     let m : tie.After-at2 = search needs in
+    let o : tie.After-pass-over = search needs in
     let w : tie.After-ways = search needs in
     let b : tie.Else1 = search needs in
-    let e : tie.After-raise = search needs in
-    leaving (p .pre .1) (p .pre .2) (a .at .ensures) _ (omega (arith, m .at2 .ensures, b .if1 .left, w .ways .ensures)) (e .raise .ensures)
+    let e : tie.After-put = search needs in
+    leaving (p .pre .1) (p .pre .2) (a .at .ensures) _ (passed-from (m .at2 .ensures) (o .pass-over .ensures)) (w .ways .ensures) (b .if1 .left) (e .put .ensures)
 
 pub look-spec : {M : Type 1} → statement M
 look-spec =
@@ -89,12 +107,14 @@ look-spec =
     add-at
     at-requires
     at-requires-2
-    sub-looked
+    sub-pass-over
+    pass-over-requires
     ways-requires
     follow-requires
     same-length
     returns
-    raise-requires
-    sub-t9
+    add-put
+    put-requires
+    sub-t10
     same-length-2
     returns-2)

@@ -1,5 +1,5 @@
 -- `cycles::search::from_root` meets its contract. The loop's invariant: the search has its path, and no mark fell since the root was begun.
--- The measure is how often a mark can still be raised. Assumes nothing.
+-- The measure is by how much marks can still be raised. Assumes nothing.
 use native.Mathlib.Omega.{arith}
 use borrow.Author.Needs.{needs}
 use Rattle.cycles.specs.Net.{netOf}

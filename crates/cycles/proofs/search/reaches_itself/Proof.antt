@@ -5,9 +5,6 @@ use Rattle.cycles.proofs.Roots.{ready, started, searched}
 use Rattle.cycles.proofs.search.reaches_itself.Statement.{statement}
 use Rattle.cycles.proofs.search.reaches_itself.Tie as tie
 
-mul-clear16 : tie.Need-mul-clear16
-mul-clear16 c = search needs
-
 clear16-requires : tie.Need-clear16-requires
 clear16-requires c κs = search needs
 
@@ -17,8 +14,8 @@ from-each-requires c κs =
     let k : tie.After-clear16 = search needs in
     (ready (p .args .work .now) (p .pre), started (p .args .work .now) (p .pre) (k .clear16 .ensures) (k .clear16 .kept .0))
 
-mul-clear16-2 : tie.Need-mul-clear16-2
-mul-clear16-2 c = search needs
+mul-clear16 : tie.Need-mul-clear16
+mul-clear16 c = search needs
 
 clear16-requires-2 : tie.Need-clear16-requires-2
 clear16-requires-2 c κs = search needs
@@ -37,10 +34,9 @@ pub reaches-itself-spec : {M : Type 1} → statement M
 reaches-itself-spec =
     tie.close
     (tie.spec
-    mul-clear16
     clear16-requires
     from-each-requires
-    mul-clear16-2
+    mul-clear16
     clear16-requires-2
     same-length
     returns)

@@ -1,32 +1,54 @@
--- `cycles::search::visit` meets its contract: what the search from a root says is a case of what a visit says. Assumes nothing.
+-- `cycles::search::visit` meets its contract: x is passed over, or what the search from a root says is a case of what a visit says. Assumes
+-- nothing.
+use mathlib.Core.Path.{sym, _∙_}
+use native.Mathlib.Omega.{arith}
 use borrow.Author.Needs.{needs}
-use Rattle.cycles.proofs.Roots.{visited}
+use Rattle.cycles.proofs.Answers.{no-ways-safe, begun-safe}
+use Rattle.cycles.proofs.Roots.{visited, passed-over}
 use Rattle.cycles.proofs.search.visit.Statement.{statement}
 use Rattle.cycles.proofs.search.visit.Tie as tie
 
-at-requires : tie.Need-at-requires
-at-requires c κs = search needs
+ways-requires : tie.Need-ways-requires
+ways-requires c κs = search needs
 
 returns : tie.Need-returns
-returns c = search needs
+returns c =
+    let p : tie.Start = search needs in
+    let w : tie.After-ways = search needs in
+    passed-over (p .args .class .now) (p .pre .1) (λ own. no-ways-safe _ (p .args .x) (sym (w .ways .ensures) ∙ c .if1 .taken))
 
-at-requires-2 : tie.Need-at-requires-2
-at-requires-2 c κs = search needs
+at-requires : tie.Need-at-requires
+at-requires c κs = search needs
 
 same-length : tie.Need-same-length
 same-length c = search needs
 
 returns-2 : tie.Need-returns-2
-returns-2 c = search needs
+returns-2 c =
+    let p : tie.Start = search needs in
+    let a : tie.After-at = search needs in
+    passed-over (p .args .class .now) (p .pre .1) (λ own. begun-safe (p .pre .1) (p .args .x) (p .pre .2) (omega (arith, a .at .ensures, c .if2 .taken)))
 
-from-root-requires : tie.Need-from-root-requires
-from-root-requires c κs = search needs
+at-requires-2 : tie.Need-at-requires-2
+at-requires-2 c κs = search needs
 
 same-length-2 : tie.Need-same-length-2
 same-length-2 c = search needs
 
 returns-3 : tie.Need-returns-3
 returns-3 c =
+    let p : tie.Start = search needs in
+    let a : tie.After-at2 = search needs in
+    passed-over (p .args .class .now) (p .pre .1) (λ own. absurd (c .if3 .taken (a .at2 .ensures ∙ own)))
+
+from-root-requires : tie.Need-from-root-requires
+from-root-requires c κs = search needs
+
+same-length-3 : tie.Need-same-length-3
+same-length-3 c = search needs
+
+returns-4 : tie.Need-returns-4
+returns-4 c =
     let f : tie.After-from-root = search needs in
     visited _ _ _ _ _ (f .from-root .result) (f .from-root .ensures)
 
@@ -34,11 +56,14 @@ pub visit-spec : {M : Type 1} → statement M
 visit-spec =
     tie.close
     (tie.spec
-    at-requires
+    ways-requires
     returns
-    at-requires-2
+    at-requires
     same-length
     returns-2
-    from-root-requires
+    at-requires-2
     same-length-2
-    returns-3)
+    returns-3
+    from-root-requires
+    same-length-3
+    returns-4)
