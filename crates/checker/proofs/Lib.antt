@@ -6,5 +6,6 @@ pub mod LoopLaws
 pub mod NameLaws
 pub mod OneCheck
 pub mod Search
+pub mod SoundLaws
 pub mod Stages
 pub mod WordLaws

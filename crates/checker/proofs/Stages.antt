@@ -14,7 +14,8 @@ use Rattle.words.specs.Word.{kindOf}
 use Rattle.graphs.proofs.Classes.{never}
 use Rattle.table.specs.Layout.{Wanted, item, count, arguments, canStand, after, atEnd, breakFrom}
 use Rattle.table.specs.Answers.{Lowest, First}
-use Rattle.table.specs.Faults.{badWord, badPointer, WORD, LAYOUT, POINTER, Fault, word-fault, layout-fault, pointer-fault, number}
+use Rattle.table.specs.Faults.{Job, badWord, badPointer, WORD, LAYOUT, POINTER, Fault, word-fault, layout-fault, pointer-fault, number}
+use Rattle.table.specs.Shaped.{Shaped}
 use Rattle.table.proofs.Blocks.{break-stands, break-stops}
 use Rattle.checker.specs.declared.answer.Checked.the-variants.{Accepted, Word, Layout, Pointer}
 use Rattle.checker.specs.Stages.{ByRows, shapeRows}
@@ -56,6 +57,19 @@ module _ {t : List ℕ} where
   pub no-bad-shape : {r q : ℕ} → First (badWord t) (length t) r → length t ≤ r → breakFrom item 1 (drop 1 t) ≡ none → First (badPointer t) (length t) q → length t ≤ q
       → ByRows shapeRows t Accepted
   no-bad-shape f h e g k list c w = inr (no-word f h list c w, inr (no-layout e list c w, inr (no-pointer g k list c w, (refl, refl))))
+
+-- none of the rows applies to a table that is shaped
+pub shaped-accepted : {t : List ℕ} → Shaped t → ByRows shapeRows t Accepted
+shaped-accepted {t} s list c w = inr (word, inr (no-layout (s .whole) list c w, inr (pointer, (refl, refl))))
+  where
+    job : Job
+    job = record { table = t; list = list; class-room = c; work-room = w }
+
+    word : (p : ℕ) → Fault job WORD p → ⊥
+    word p (word-fault l) = s .words p (l .has .0) (l .has .1)
+
+    pointer : (p : ℕ) → Fault job POINTER p → ⊥
+    pointer p (pointer-fault l) = s .pointers p (l .has .0) (l .has .1)
 
 -- ---- where the row of items can break
 

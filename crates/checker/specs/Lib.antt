@@ -2,4 +2,5 @@
 pub mod Check
 pub mod Layout
 pub mod Names
+pub mod Sound
 pub mod Stages

@@ -34,7 +34,7 @@ fn is_item(kind: Kind) -> bool
     }
 }
 
-fn is_count(kind: Kind) -> bool
+pub(crate) fn is_count(kind: Kind) -> bool
     ensures { λ r. ⌜ r ≡ countKind kind ⌝ }
 {
     match kind {

@@ -1,7 +1,8 @@
 // The table check: which of the answers 0 to 7 a table gets, and at which place.
 //
-// Each fault has a module of its own, and a scan of the words finds it at its lowest place. The
-// stages come in the order of the numbers: what a later one goes by, an earlier one has shown.
+// Each fault has a module of its own, and a scan of the words finds it at its lowest place; those from
+// 3 to 5 are looked for only where one walk (sound) does not show that there is none. The stages come
+// in the order of the numbers: what a later one goes by, an earlier one has shown.
 pub mod answer;
 mod faults;
 mod layout_fault;
@@ -9,6 +10,7 @@ mod loops;
 mod name_fault;
 mod pointer_fault;
 mod shape;
+mod sound;
 mod word_fault;
 
 ghost use Rattle.checker.specs.Check.{CheckOf};

@@ -23,7 +23,7 @@ fn is_pointer_or_count(kind: Kind) -> bool
 }
 
 // Whether a pointer may not name this address.
-fn is_bad_target(table: &[u32], target: Address) -> bool
+pub(crate) fn is_bad_target(table: &[u32], target: Address) -> bool
     ensures { λ r. ⌜ r ≡ badTarget Kind.Pointer (target .0) (now (table .entry)) ⌝ }
 {
     let at = target.0 as usize;

@@ -12,7 +12,7 @@ use words::word;
 const MOST_ARGUMENTS: u16 = 255;
 
 // Whether a word that is not the first is bad, by its kind and its content.
-fn is_bad_kind(kind: Kind, content: u16) -> bool
+pub(crate) fn is_bad_kind(kind: Kind, content: u16) -> bool
     ensures { λ r. ⌜ r ≡ badKind kind content ⌝ }
 {
     match kind {

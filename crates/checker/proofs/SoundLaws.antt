@@ -1,0 +1,180 @@
+-- The walk along the items of a sound table. In order:
+--   good-first     word 0 is the number 0
+--   walked-none, walked-on   no step, and one walk after another
+--   item-word, count-word, argument-word   one word further
+--   argument-more, arguments-end, walked-block   a count and its arguments
+--   nowhere, next-item, next-block   the address after an item
+--   walked-shaped  the whole table
+-- Assumes nothing.
+use mathlib.Core.Path.{_≡_, refl, sym, ap, subst, _∙_}
+use mathlib.Core.Bool.{Bool, true, false, _&&_, not}
+use mathlib.Core.List.{List}
+use Prim.Native.Nat.{ℕ, zero, suc, _+_, _-_, _≤_, _<_}
+use native.Mathlib.Omega.{arith}
+use borrow.Author.Tests.{eq-eqb, leb-true, leb-false}
+use lib.Dec.{leb}
+use lib.ListN.{length}
+use Rattle.words.specs.Word.{kindOf, contentOf}
+use Rattle.words.specs.declared.kind.Kind.{Kind}
+use Rattle.words.specs.declared.kind.Kind.the-variants.{Variable, Constant, Function, Pointer, Count, NoWord}
+use Rattle.graphs.proofs.Classes.{never}
+use Rattle.table.specs.Table.{wordAt, kindAt, contentAt}
+use Rattle.table.specs.Layout.{Wanted, item, count, arguments, more, itemKind, countKind, argumentKind, canStand, afterItem, after, atEnd}
+use Rattle.table.specs.Faults.{badKind, badLater, badTarget}
+use Rattle.table.specs.Shaped.{Shaped}
+use Rattle.checker.specs.Sound.{soundCount, argumentTo, soundArgument, Good, Walked, NextItem}
+use Rattle.checker.proofs.LayoutLaws.{break-stands, break-ends}
+
+-- ---- one address
+
+pub good-first : (t : List ℕ) → wordAt t 0 ≡ 0 → Good t 0
+unfolding badLater badTarget kindOf
+good-first t e = record {
+  word = ap not (eq-eqb (wordAt t 0) 0 e);
+  pointer = ap (λ (w : ℕ). badTarget (kindOf w) (contentAt t 0) t) e;
+}
+
+-- a later word is good if its kind and content are
+good-later : (t : List ℕ) (a : ℕ) (k : Kind) → 0 < a → kindAt t a ≡ k → badKind k (contentAt t a) ≡ false → badTarget k (contentAt t a) t ≡ false → Good t a
+unfolding badLater
+good-later t zero k h e w p = absurd (omega arith)
+good-later t (suc a) k h e w p = record {
+  word = ap (λ (q : Kind). badKind q (contentAt t (suc a))) e ∙ w;
+  pointer = ap (λ (q : Kind). badTarget q (contentAt t (suc a)) t) e ∙ p;
+}
+
+-- what the test of a count read
+module _ (w : ℕ) {kind : Kind} {is-count : Bool} (k : kind ≡ kindOf w) (e : is-count ≡ countKind kind) where
+  tested : {b : Bool} → is-count ≡ b → countKind (kindOf w) ≡ b
+  tested f = ap countKind (sym k) ∙ sym e ∙ f
+
+  pub no-count : is-count ≡ false → false ≡ soundCount w
+  unfolding soundCount
+  no-count f = sym (ap (λ (b : Bool). b && not (badKind (kindOf w) (contentOf w))) (tested f))
+
+  pub some-count : {content : ℕ} {bad : Bool} → is-count ≡ true → content ≡ contentOf w → bad ≡ badKind kind content → not bad ≡ soundCount w
+  unfolding soundCount
+  some-count f n b = ap not (b ∙ (λ i. badKind (k i) (n i))) ∙ sym (ap (λ (q : Bool). q && not (badKind (kindOf w) (contentOf w))) (tested f))
+
+-- ---- walks
+
+pub walked-none : (t : List ℕ) (wanted : Wanted) (a : ℕ) → a ≤ length t → Walked t wanted a wanted a
+walked-none t wanted a h = record { same = refl; good = λ j p q. absurd (omega arith); forth = omega arith; within = h }
+
+pub walked-on : {t : List ℕ} {u v w : Wanted} {a b c : ℕ} → Walked t u a v b → Walked t v b w c → Walked t u a w c
+walked-on {t} {u} {v} {w} {a} {b} {c} x y = record {
+  same = x .same ∙ y .same;
+  good = λ j p q. at j p q (leb b j) refl;
+  forth = omega (arith, x .forth, y .forth);
+  within = y .within;
+}
+  where
+    at : (j : ℕ) → a ≤ j → j < c → (r : Bool) → leb b j ≡ r → Good t j
+    at j p q true e = y .good j (leb-true b j e) q
+    at j p q false e = x .good j p (leb-false b j e)
+
+-- a word that stands, and is good
+one-word : (t : List ℕ) (wanted : Wanted) (a : ℕ) → a < length t → canStand wanted (kindAt t a) ≡ true → Good t a → Walked t wanted a (after wanted (wordAt t a)) (a + 1)
+one-word t wanted a h e g = record {
+  same = break-stands t a wanted h e;
+  good = λ j p q. subst (Good t) (let s : a ≡ j = omega arith in s) g;
+  forth = omega arith;
+  within = omega arith;
+}
+
+module _ (t : List ℕ) (a : ℕ) (later : 0 < a) (inside : a < length t) where
+  pub item-word : (k : Kind) → kindAt t a ≡ k → itemKind k ≡ true → badKind k (contentAt t a) ≡ false → badTarget k (contentAt t a) t ≡ false → Walked t item a (afterItem k) (a + 1)
+  unfolding canStand after
+  item-word k e i w p =
+      subst (λ (q : Kind). Walked t item a (afterItem q) (a + 1)) e
+      (one-word t item a inside (ap itemKind e ∙ i) (good-later t a k later e w p))
+
+  pub variable-item : kindAt t a ≡ Variable → Walked t item a item (a + 1)
+  unfolding badKind badTarget
+  variable-item e = item-word Variable e refl refl refl
+
+  pub constant-item : kindAt t a ≡ Constant → Walked t item a item (a + 1)
+  unfolding badKind badTarget
+  constant-item e = item-word Constant e refl refl refl
+
+  pub function-word : kindAt t a ≡ Function → Walked t item a count (a + 1)
+  unfolding badKind badTarget
+  function-word e = item-word Function e refl refl refl
+
+  pub count-word : soundCount (wordAt t a) ≡ true → Walked t count a (more (contentAt t a)) (a + 1)
+  unfolding soundCount canStand after badTarget
+  count-word s = go (kindAt t a) refl s
+    where
+      good-count : (b : Bool) → badKind Count (contentAt t a) ≡ b → not b ≡ true → badKind Count (contentAt t a) ≡ false
+      good-count true e f = never (cc)
+      good-count false e f = e
+
+      go : (k : Kind) → kindAt t a ≡ k → (countKind k && not (badKind k (contentAt t a))) ≡ true → Walked t count a (more (contentAt t a)) (a + 1)
+      go Variable e f = never (cc)
+      go Constant e f = never (cc)
+      go Function e f = never (cc)
+      go Pointer e f = never (cc)
+      go Count e f = one-word t count a inside (ap countKind e) (good-later t a Count later e (good-count _ refl f) refl)
+      go NoWord e f = never (cc)
+
+  pub argument-word : (j : ℕ) → soundArgument t a ≡ true → Walked t (arguments (suc j)) a (more j) (a + 1)
+  unfolding argumentTo canStand after badKind badTarget
+  argument-word j s = go (kindAt t a) refl s
+    where
+      not-bad : (b : Bool) → not b ≡ true → b ≡ false
+      not-bad true f = never (cc)
+      not-bad false f = refl
+
+      step : argumentKind (kindAt t a) ≡ true → Good t a → Walked t (arguments (suc j)) a (more j) (a + 1)
+      step e g = one-word t (arguments (suc j)) a inside e g
+
+      go : (k : Kind) → kindAt t a ≡ k → argumentTo k (contentAt t a) t ≡ true → Walked t (arguments (suc j)) a (more j) (a + 1)
+      go Variable e f = step (ap argumentKind e) (good-later t a Variable later e refl refl)
+      go Constant e f = step (ap argumentKind e) (good-later t a Constant later e refl refl)
+      go Function e f = never (cc)
+      go Pointer e f = step (ap argumentKind e) (good-later t a Pointer later e refl (not-bad _ f))
+      go Count e f = never (cc)
+      go NoWord e f = never (cc)
+
+-- ---- the arguments, the block, the item and the table, from what was read
+
+-- so many arguments are to come up to `to`, and one less after this one
+pub argument-more : {t : List ℕ} {from to a : ℕ} → Walked t (more (to - from)) from (more (to - a)) a → 0 < from → a < to → to ≤ length t → soundArgument t a ≡ true
+    → Walked t (more (to - from)) from (more (to - (a + 1))) (a + 1)
+argument-more {t} {from} {to} {a} w later h inside s =
+    walked-on w
+    (subst (λ (k : ℕ). Walked t (more k) a (more (to - (a + 1))) (a + 1)) (let e : suc (to - (a + 1)) ≡ to - a = omega arith in e)
+    (argument-word t a (omega (arith, w .forth)) (omega arith) (to - (a + 1)) s))
+
+pub arguments-end : {t : List ℕ} {wanted : Wanted} {from to a : ℕ} → Walked t wanted from (more (to - a)) a → a ≤ to → to ≤ a → Walked t wanted from item to
+arguments-end {t} {wanted} {from} {to} {a} w below above =
+    subst (λ (b : ℕ). Walked t wanted from item b) (let e : a ≡ to = omega arith in e)
+    (subst (λ (k : ℕ). Walked t wanted from (more k) a) (let e : to - a ≡ 0 = omega arith in e) w)
+
+pub walked-block : {t : List ℕ} {a end : ℕ} → 0 < a → a < length t → soundCount (wordAt t a) ≡ true → end ≡ a + 1 + contentAt t a
+    → Walked t (more (end - (a + 1))) (a + 1) item end → Walked t count a item end
+walked-block {t} {a} {end} later inside s e w =
+    walked-on (count-word t a later inside s)
+    (subst (λ (k : ℕ). Walked t (more k) (a + 1) item end) (let q : end - (a + 1) ≡ contentAt t a = omega (arith, e) in q) w)
+
+pub nowhere : {t : List ℕ} {here : Wanted} {a : ℕ} → NextItem t here a 0
+nowhere stopped = absurd (stopped refl)
+
+pub next-item : {t : List ℕ} {a : ℕ} → Walked t item a item (a + 1) → NextItem t item a (a + 1)
+next-item w goes = (omega arith, w)
+
+pub next-block : {t : List ℕ} {a next : ℕ} → Walked t item a count (a + 1) → NextItem t count (a + 1) next → NextItem t item a next
+next-block function block goes = (omega (arith, block goes .0), walked-on function (block goes .1))
+
+pub walked-shaped : {t : List ℕ} {b : ℕ} → wordAt t 0 ≡ 0 → Walked t item 1 item b → length t ≤ b → Shaped t
+unfolding atEnd
+walked-shaped {t} {b} first w end = record {
+  some-word = omega (arith, w .forth, w .within);
+  words = λ a h e. let g : Good t a = good a h in let f = g .word in never (cc);
+  whole = w .same ∙ break-ends t b item end;
+  pointers = λ a h e. let g : Good t a = good a h in let f = g .pointer in never (cc);
+}
+  where
+    good : (a : ℕ) → a < length t → Good t a
+    good zero h = good-first t first
+    good (suc a) h = w .good (suc a) (omega arith) (omega arith)
