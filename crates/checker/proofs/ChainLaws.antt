@@ -1,4 +1,5 @@
 -- Chains of variables, over any two functions: where each chain begins, and what comes after an address. In order:
+--   spread-below, start-below    a label is spread over the chains' starts
 --   chains-none    before address 1 there are none
 --   chains-pass    an address that is no variable is passed by
 --   chains-more    a variable is put in front of its chain
@@ -9,15 +10,26 @@
 -- Assumes nothing.
 use mathlib.Core.Path.{_≡_, sym, ap, subst, _∙_}
 use mathlib.Core.List.{List}
-use Prim.Native.Nat.{ℕ, _+_, _%_, _<_}
+use Prim.Native.Nat.{ℕ, _+_, _*_, _%_, _<_}
 use native.Mathlib.Decide.{ℕ-discrete}
-use native.Mathlib.Nat.{mod-lt}
+use native.Mathlib.Nat.{mod-lt, mul-comm, mul-lt-mul-of-pos-left, div-lt-iff-lt-mul}
 use native.Mathlib.Omega.{arith}
 use borrow.Author.Count.{below-more}
 use Rattle.words.specs.declared.kind.Kind.the-variants.{Variable, NoWord}
 use Rattle.table.specs.Table.{kindAt, contentAt}
 use Rattle.table.specs.Faults.{Repeats}
-use Rattle.checker.specs.Names.{Reach, here, further, InChain, Chains}
+use Rattle.checker.specs.Names.{startOf, Reach, here, further, InChain, Chains}
+
+-- a 16-bit number times m
+times-below : (x m : ℕ) → x < 65536 → 0 < m → x * m < m * 65536
+times-below x m h pos = omega (arith, mul-comm x m, mul-lt-mul-of-pos-left h pos)
+
+pub spread-below : (label m : ℕ) → 0 < m → label * 40503 % 65536 * m < m * 65536
+spread-below label m pos = times-below (label * 40503 % 65536) m (mod-lt _ (omega arith)) pos
+
+pub start-below : (label : ℕ) {m : ℕ} → 0 < m → startOf label m < m
+unfolding startOf
+start-below label {m} pos = div-lt-iff-lt-mul {k = 65536} {y = m} (omega arith) .1 (spread-below label m pos)
 
 kept-later : {t : List ℕ} {a x : ℕ} → InChain t a x → InChain t (a + 1) x
 kept-later k = record { below = omega arith; variable-there = k .variable-there }
@@ -35,7 +47,7 @@ chains-pass {t} {m} {a} {head} {next} s other = record {
   links = λ v p q.
       below-more (λ u. 0 < u → kindAt t u ≡ Variable → InChain t u (next u)) a (λ u i j. s .links u j i) (λ j k. absurd (other k)) v q p;
   all = λ b p q.
-      below-more (λ u. 0 < u → kindAt t u ≡ Variable → Reach next (head (contentAt t u % m)) u) a (λ u i j. s .all u j i) (λ j k. absurd (other k)) b q p;
+      below-more (λ u. 0 < u → kindAt t u ≡ Variable → Reach next (head (startOf (contentAt t u) m)) u) a (λ u i j. s .all u j i) (λ j k. absurd (other k)) b q p;
 }
 
 -- A variable at a is put in front of the chain that begins at h.
@@ -59,7 +71,7 @@ module _ {t : List ℕ} {m a h : ℕ} {head next head' next' : ℕ → ℕ} (s :
       )
       )
 
-  pub chains-more : 0 < a → h ≡ contentAt t a % m → h < m → kindAt t a ≡ Variable → Chains t m (a + 1) head' next'
+  pub chains-more : 0 < a → h ≡ startOf (contentAt t a) m → h < m → kindAt t a ≡ Variable → Chains t m (a + 1) head' next'
   chains-more pos here-slot small variable-here = record {
     heads = λ g i. heads-at g i (ℕ-discrete g h);
     links = λ v p q.
@@ -67,8 +79,8 @@ module _ {t : List ℕ} {m a h : ℕ} {head next head' next' : ℕ → ℕ} (s :
         (λ u i j k. subst (InChain t u) (sym (f .other-links u (λ e. omega arith))) (s .links u j i k))
         (λ j k. subst (InChain t a) (sym (f .then)) (s .heads h small)) v q p;
     all = λ b p q.
-        below-more (λ u. 0 < u → kindAt t u ≡ Variable → Reach next' (head' (contentAt t u % m)) u) a
-        (λ u i j k. older u i j k (ℕ-discrete (contentAt t u % m) h))
+        below-more (λ u. 0 < u → kindAt t u ≡ Variable → Reach next' (head' (startOf (contentAt t u) m)) u) a
+        (λ u i j k. older u i j k (ℕ-discrete (startOf (contentAt t u) m) h))
         (λ j k. subst (λ x. Reach next' x a) (sym (ap head' (sym here-slot) ∙ f .first)) here) b q p;
   }
     where
@@ -77,7 +89,7 @@ module _ {t : List ℕ} {m a h : ℕ} {head next head' next' : ℕ → ℕ} (s :
           subst (InChain t (a + 1)) (sym (ap head' e ∙ f .first)) (record { below = omega arith; variable-there = λ p. variable-here })
       heads-at g i (no e) = subst (InChain t (a + 1)) (sym (f .other-heads g i e)) (kept-later (s .heads g i))
 
-      older : (u : ℕ) → u < a → 0 < u → kindAt t u ≡ Variable → Dec (contentAt t u % m ≡ h) → Reach next' (head' (contentAt t u % m)) u
+      older : (u : ℕ) → u < a → 0 < u → kindAt t u ≡ Variable → Dec (startOf (contentAt t u) m ≡ h) → Reach next' (head' (startOf (contentAt t u) m)) u
       older u i j k (yes e) =
           subst (λ x. Reach next' x u) (sym (ap head' e ∙ f .first)) (
           further pos (
@@ -89,8 +101,8 @@ module _ {t : List ℕ} {m a h : ℕ} {head next head' next' : ℕ → ℕ} (s :
       older u i j k (no e) =
           subst (λ x. Reach next' x u) (sym (f .other-heads _ slot-small e)) (reach-stays (s .all u j i k) (s .heads _ slot-small))
         where
-          slot-small : contentAt t u % m < m
-          slot-small = mod-lt _ (omega arith)
+          slot-small : startOf (contentAt t u) m < m
+          slot-small = start-below _ (omega arith)
 
 -- ---- a walk
 
@@ -99,10 +111,10 @@ pub record Walk (t : List ℕ) (a label : ℕ) (next : ℕ → ℕ) (v : ℕ) : 
   pub left : (b : ℕ) → 0 < b → b < a → kindAt t b ≡ Variable → contentAt t b ≡ label → Reach next v b
 
 module _ {t : List ℕ} {m a : ℕ} {head next : ℕ → ℕ} (s : Chains t m a head next) where
-  pub walk-begins : {label h v : ℕ} → h ≡ label % m → h < m → v ≡ head h → Walk t a label next v
+  pub walk-begins : {label h v : ℕ} → h ≡ startOf label m → h < m → v ≡ head h → Walk t a label next v
   walk-begins {label} {h} {v} slot small e = record {
     kept = subst (InChain t a) (sym e) (s .heads h small);
-    left = λ b p q k l. subst (λ x. Reach next x b) (ap (λ x. head (x % m)) l ∙ ap head (sym slot) ∙ sym e) (s .all b p q k);
+    left = λ b p q k l. subst (λ x. Reach next x b) (ap (λ x. head (startOf x m)) l ∙ ap head (sym slot) ∙ sym e) (s .all b p q k);
   }
 
   link : {label v : ℕ} → Walk t a label next v → (v ≡ 0 → ⊥) → InChain t v (next v)

@@ -8,7 +8,7 @@
 use mathlib.Core.Path.{_≡_, refl, sym, ap, subst, _∙_}
 use mathlib.Core.Bool.{Bool, true, false, true≢false}
 use mathlib.Core.List.{List, _++_}
-use Prim.Native.Nat.{ℕ, _+_, _*_, _%_, _≤_, _<_}
+use Prim.Native.Nat.{ℕ, _+_, _*_, _≤_, _<_}
 use native.Mathlib.Omega.{arith}
 use lib.ListN.{length, getD, set, drop, replicate, length-set, length-append, length-replicate, length-drop}
 use lib.Seq.{getD-set-same, getD-set-other, drop-set-lt}
@@ -19,7 +19,7 @@ use Rattle.words.specs.declared.kind.Kind.{Kind}
 use Rattle.words.specs.declared.kind.Kind.the-variants.{Variable, Constant, Function, Pointer, Count, NoWord}
 use Rattle.table.specs.Table.{wordAt, kindAt, contentAt}
 use Rattle.table.specs.Faults.{Repeats}
-use Rattle.checker.specs.Names.{variableKind, Either, headIn, nextIn, Chained, ChainedOn, Judged, FirstRepeated}
+use Rattle.checker.specs.Names.{variableKind, Either, startOf, headIn, nextIn, Chained, ChainedOn, Judged, FirstRepeated}
 use Rattle.checker.proofs.ChainLaws.{chains-none, chains-pass, chains-more, InFront}
 
 pub is-variable : (k : Kind) → variableKind k ≡ true → k ≡ Variable
@@ -59,7 +59,7 @@ module _ (t work : List ℕ) (a h : ℕ) (room : 4 * length t ≤ length work) (
         ∙ getD-set-other work (3 * length t + a) (3 * length t + v) (getD work h 0) 0 (λ q. e (omega arith));
   }
 
-  pub put-front : Chained t work a → h ≡ contentAt t a % (3 * length t) → kindAt t a ≡ Variable → ChainedOn t work (fronted t work a h) (a + 1)
+  pub put-front : Chained t work a → h ≡ startOf (contentAt t a) (3 * length t) → kindAt t a ≡ Variable → ChainedOn t work (fronted t work a h) (a + 1)
   put-front c slot k = record {
     chained = record {
       no-variable = c .no-variable;

@@ -3,7 +3,7 @@
 use mathlib.Core.Path.{_≡_}
 use mathlib.Core.Bool.{Bool, true, false}
 use mathlib.Core.List.{List}
-use Prim.Native.Nat.{ℕ, _+_, _*_, _%_, _≤_, _<_}
+use Prim.Native.Nat.{ℕ, _+_, _*_, _/_, _%_, _≤_, _<_}
 use lib.ListN.{length, getD, drop}
 use Rattle.words.specs.declared.kind.Kind.{Kind}
 use Rattle.words.specs.declared.kind.Kind.the-variants.{Variable, Constant, Function, Pointer, Count, NoWord}
@@ -31,6 +31,10 @@ abbrev pub Either : Bool → Type 0 → Type 0 → Type 0
 Either true A B = A
 Either false A B = B
 
+-- where the chain of a label begins, of so many chains
+unfoldable pub startOf : ℕ → ℕ → ℕ
+startOf label chains = label * 40503 % 65536 * chains / 65536
+
 -- ---- chains, over any two functions: where each chain begins, and what comes after an address
 
 -- An address is met on the way from another; 0 ends the way.
@@ -47,7 +51,7 @@ pub record InChain (t : List ℕ) (a x : ℕ) : Type 0 where
 pub record Chains (t : List ℕ) (m a : ℕ) (head next : ℕ → ℕ) : Type 0 where
   pub heads : (h : ℕ) → h < m → InChain t a (head h)
   pub links : (v : ℕ) → 0 < v → v < a → kindAt t v ≡ Variable → InChain t v (next v)
-  pub all : (b : ℕ) → 0 < b → b < a → kindAt t b ≡ Variable → Reach next (head (contentAt t b % m)) b
+  pub all : (b : ℕ) → 0 < b → b < a → kindAt t b ≡ Variable → Reach next (head (startOf (contentAt t b) m)) b
 
 -- ---- chains in the work row
 

@@ -1,23 +1,32 @@
 // Answer 6, NAME: "a variable's label stood earlier".
 //
-// The variables met so far are kept in chains in the work row, for a table of n words: the chain of a
-// label begins at entry label % 3n with the newest address, and entry 3n + a has the address that
-// comes after a. Address 0, which is no variable, ends a chain. Links fall, so a walk ends. Labels
-// have 16 bits, so no chain is longer than 65,536 / 3n + 1 before a label repeats, and no table takes
-// more than about 11,000 comparisons of labels.
+// The variables met so far are kept in chains in the work row, for a table of n words: the first 3n
+// entries begin the chains, each with its newest address, and entry 3n + a has the address that comes
+// after a. Address 0, which is no variable, ends a chain. Links fall, so a walk ends.
+//
+// The chain of a label is told with no division: times an odd number, which is one to one on 16 bits,
+// and then by its high bits, so that labels that agree in their low bits are spread too. A chain has
+// at most 65,536 / 3n + 1 labels before one repeats, and no table takes more than about 11,000
+// comparisons of labels.
 ghost use mathlib.Core.Path.{_≡_};
-ghost use Prim.Native.Nat.{_+_, _*_, _%_, _<_, _≤_};
+ghost use Prim.Native.Nat.{_+_, _*_, _<_, _≤_};
 ghost use lib.ListN.{length, getD};
 ghost use Rattle.words.specs.declared.kind.Kind.{Kind};
 ghost use Rattle.table.specs.Faults.{Repeats};
 ghost use Rattle.table.specs.Table.{wordAt, kindAt, contentAt};
-ghost use Rattle.checker.specs.Names.{variableKind, Either, Chained, ChainedOn, Judged, FirstRepeated};
+ghost use Rattle.checker.specs.Names.{variableKind, Either, startOf, Chained, ChainedOn, Judged, FirstRepeated};
 use words::kind::Kind;
 use words::numbers::Label;
 use words::word;
 
 // A chain begins at one of 3n entries.
 const STARTS_A_WORD: usize = 3;
+
+// A label has 16 bits.
+const LABELS: usize = 65536;
+
+// Odd, so that no two labels are spread to one number.
+const SPREAD: usize = 40503;
 
 // The work row has 4n entries: those, and a link for each word.
 const ENTRIES_A_WORD: usize = 4;
@@ -52,10 +61,11 @@ fn entry(work: &[u16], place: usize) -> usize
 
 // Where the chain of a label begins.
 fn start(label: Label, starts: usize) -> usize
-    requires { ⌜ 0 < starts ⌝ }
-    ensures { λ r. ⌜ (r ≡ label .0 % starts) × (r < starts) ⌝ }
+    requires { ⌜ (0 < starts) × (starts ≤ 12288) ⌝ }
+    ensures { λ r. ⌜ (r ≡ startOf (label .0) starts) × (r < starts) ⌝ }
 {
-    label.0 as usize % starts
+    let spread = label.0 as usize * SPREAD % LABELS;
+    spread * starts / LABELS
 }
 
 // Whether the label of the variable at an address stood earlier.

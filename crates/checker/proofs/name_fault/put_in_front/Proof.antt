@@ -1,8 +1,9 @@
 -- `checker::name_fault::put_in_front` meets its contract, by the law of the two stores. Assumes nothing.
 use mathlib.Core.Path.{ap, _∙_}
-use Prim.Native.Nat.{_*_, _%_}
+use Prim.Native.Nat.{_*_}
 use native.Mathlib.Omega.{arith}
 use lib.ListN.{length, length-set}
+use Rattle.checker.specs.Names.{startOf}
 use Rattle.checker.proofs.NameLaws.{put-front}
 use borrow.Author.Needs.{needs}
 use Rattle.checker.proofs.name_fault.put_in_front.Statement.{statement}
@@ -50,7 +51,7 @@ returns c =
     let start = c .before .start in
     put-front (p .args .table .now) (p .args .work .now) (p .args .at) (start .result)
     (p .pre .0 .room) (p .pre .1) (start .ensures .1) (p .pre .0)
-    (start .ensures .0 ∙ ap (λ l. l % (3 * length (p .args .table .now))) (c .before .before .label-at .ensures)) (p .pre .2)
+    (start .ensures .0 ∙ ap (λ l. startOf l (3 * length (p .args .table .now))) (c .before .before .label-at .ensures)) (p .pre .2)
 
 pub put-in-front-spec : {M : Type 1} → statement M
 put-in-front-spec =
