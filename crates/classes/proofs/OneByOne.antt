@@ -20,7 +20,7 @@ use Rattle.classes.specs.Forest.{Forest}
 use Rattle.classes.specs.Meeting.{PassedCheck, State, Within, Agrees, Complete, Settled}
 use Rattle.classes.specs.Lists.{JoinsPair, resting, Holding, JoinedBefore, ClashesAt, EachJoined}
 use Rattle.classes.proofs.Links.{shorter-none, root-exists}
-use Rattle.classes.proofs.Flat.{Flat, flat-none, flat-forest, flat-more, flat-all}
+use Rattle.classes.proofs.Flat.{Flat, led-now, flat-none, flat-forest, flat-more, flat-all}
 use Rattle.classes.proofs.Moves.{kept-none, kept-join, true-joined, false-stopped}
 use Rattle.classes.proofs.ClassTables.{flat-class-table}
 
@@ -90,7 +90,8 @@ flat-to {t} {row} forest (suc k) h = go (flat-to forest k (omega arith))
         let r : _ = root-exists (flat-forest flat) k (omega arith) in (
           set after k (r .0),
           subst (Flat t row (set after k (r .0))) (let e : k + 1 ≡ suc k = omega arith in e)
-              (flat-more flat (omega arith) (record { inside = r .3; reached = r .1; own = r .2; shorter = shorter-none })),
+              (flat-more flat (omega arith)
+              (led-now (flat-forest flat) (omega arith) (record { inside = r .3; reached = r .1; own = r .2; shorter = shorter-none }))),
         )
 
 pub holding-no-clash : {t row work : List ℕ} {pairs : List Pair} → PassedCheck t → Sides (graphOf t) pairs → State t row work 0 → Holding t pairs row work → Clash (graphOf t) pairs → ⊥

@@ -35,6 +35,11 @@ pub record Rooted (t row : List ℕ) (x r : ℕ) (after : List ℕ) : Type 0 whe
   pub own : entry row r ≡ r
   pub shorter : Shorter t row after
 
+-- The entry of x is a root, and links were shortened on the way.
+pub record Led (t row : List ℕ) (x : ℕ) (after : List ℕ) : Type 0 where
+  pub shorter : Shorter t row after
+  pub own : entry row (entry after x) ≡ entry after x
+
 -- Each entry is a root: what the links lead to stands in the row at once.
 pub record Flattened (t row after : List ℕ) : Type 0 where
   pub shorter : Shorter t row after

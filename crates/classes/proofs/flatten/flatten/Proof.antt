@@ -1,10 +1,10 @@
--- `classes::flatten::flatten` meets its contract. The loop's invariant is `Flat`: the entries written so far are roots. Assumes
+-- `classes::flatten::flatten` meets its contract. The loop's invariant is `Flat`: the entries passed so far are roots. Assumes
 -- nothing.
 use Prim.Native.Nat.{_-_}
 use native.Mathlib.Omega.{arith}
 use borrow.Author.Needs.{needs}
 use lib.ListN.{length}
-use Rattle.classes.proofs.Flat.{Flat, flat-none, flat-forest, flat-room, flat-more, flat-all}
+use Rattle.classes.proofs.Flat.{Flat, flat-none, flat-forest, flat-more, flat-all}
 use Rattle.classes.proofs.flatten.flatten.Statement.{statement}
 use Rattle.classes.proofs.flatten.flatten.Tie as tie
 
@@ -24,19 +24,10 @@ cast-t9 c =
     let p : tie.Start Inv-loop μ-loop = search needs in
     omega (arith, p .pre .1)
 
-root-requires : tie.Need-root-requires Inv-loop μ-loop
-root-requires c κs =
+lead-to-root-requires : tie.Need-lead-to-root-requires Inv-loop μ-loop
+lead-to-root-requires c κs =
     let o : tie.At-loop Inv-loop μ-loop = search needs in
     (flat-forest (o .loop .inv), search needs)
-
-mul-class : tie.Need-mul-class Inv-loop μ-loop
-mul-class c = search needs
-
-slice-write-class : tie.Need-slice-write-class Inv-loop μ-loop
-slice-write-class c =
-    let o : tie.At-loop Inv-loop μ-loop = search needs in
-    let r : tie.After-root Inv-loop μ-loop = search needs in
-    flat-room (o .loop .inv) (search needs) (r .root .ensures)
 
 add-x : tie.Need-add-x Inv-loop μ-loop
 add-x c = omega arith
@@ -47,8 +38,8 @@ loop-less c = omega arith
 loop-again : tie.Need-loop-again Inv-loop μ-loop
 loop-again c =
     let o : tie.At-loop Inv-loop μ-loop = search needs in
-    let r : tie.After-root Inv-loop μ-loop = search needs in
-    flat-more (o .loop .inv) (search needs) (r .root .ensures)
+    let l : tie.After-lead-to-root Inv-loop μ-loop = search needs in
+    flat-more (o .loop .inv) (search needs) (l .lead-to-root .ensures)
 
 same-length : tie.Need-same-length Inv-loop μ-loop
 same-length c = c .before .loop .inv .shorter .long
@@ -64,9 +55,7 @@ flatten-spec =
     μ-loop
     loop-holds
     cast-t9
-    root-requires
-    mul-class
-    slice-write-class
+    lead-to-root-requires
     add-x
     loop-less
     loop-again
