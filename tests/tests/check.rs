@@ -217,24 +217,23 @@ fn names() {
     assert_eq!(check(&words(&[variable(2), variable(1)])), (ACCEPTED, 0));
 }
 
+/// The entry where the chain of a label begins (`startOf`).
+fn start_of(label: usize, chains: usize) -> usize {
+    label * 40_503 % 65_536 * chains / 65_536
+}
+
 /// Labels that agree in the entry where their chain begins, without and with one that repeats.
 #[test]
 fn names_of_one_chain() {
     for n in [2_usize, 3, 5, 148, 1_000, MOST_WORDS] {
         let chains = 3 * n;
-        let in_chain = 65_536_usize.div_euclid(chains).min(n - 1);
-        let mut table = vec![0_u32];
-        for i in 0..in_chain {
-            table.push(variable((i * chains) as u16));
-        }
+        let (in_chain, others): (Vec<usize>, Vec<usize>) =
+            (0..65_536).partition(|&label| start_of(label, chains) == 0);
+        assert!(in_chain.len() <= 65_536 / chains + 1, "n {n}");
         // different labels in other chains up to n words
-        let mut next = 1;
-        while table.len() < n {
-            if next % chains != 0 {
-                table.push(variable(next as u16));
-            }
-            next += 1;
-        }
+        let labels = in_chain.iter().chain(&others).take(n - 1);
+        let mut table = vec![0_u32];
+        table.extend(labels.map(|&label| variable(label as u16)));
         assert_eq!(check(&table), (ACCEPTED, 0), "n {n}");
         let last = n - 1;
         if last > 1 {
@@ -309,9 +308,9 @@ fn deep_chain() {
     assert_eq!(check(&table), (LOOP, 0));
 }
 
-/// The most comparisons of labels that a table of n words can take. A chain holds labels that agree
-/// modulo 3n, and all differ until one repeats; so it is worst to fill chain after chain, and to
-/// repeat a label of a full chain at the end.
+/// The most comparisons of labels that a table of n words can take. A chain holds labels that begin at
+/// one of 3n entries, and all differ until one repeats; so it is worst to fill chain after chain, and
+/// to repeat a label of a full chain at the end.
 #[test]
 fn no_table_takes_11_000_comparisons() {
     let worst = (2..=MOST_WORDS)
