@@ -11,13 +11,11 @@ use mathlib.Core.Logic.{_↔_}
 use native.Mathlib.Omega.{arith}
 use lib.Dec.{eqb}
 use borrow.Author.Tests.{eq-eqb, ne-eqb, eqb-true}
-use Rattle.words.specs.Head.{Counted, kindOfHead, labelOf, symbolOf, labelsAgree, sameSymbol, oneSymbol, symbolsAgree}
+use Rattle.words.specs.Head.{Counted, kindOfHead, labelOf, labelAndCount, HeadSymbol, One, None, symbolOf, labelsAgree, sameSymbol, oneSymbol, symbolsAgree}
 use Rattle.words.specs.declared.kind.Kind.{Kind}
 use Rattle.words.specs.declared.numbers.Label.{Label}
 use Rattle.words.specs.declared.head.Head.{Head}
 use Rattle.words.specs.declared.head.Head.the-variants.{Variable, Constant, Function}
-use Rattle.words.specs.declared.head.HeadSymbol.{HeadSymbol}
-use Rattle.words.specs.declared.head.HeadSymbol.the-variants.{One, None}
 use Rattle.words.specs.declared.head.Symbol.{Symbol}
 use Rattle.words.proofs.Tests.{and-exactly}
 
@@ -62,5 +60,5 @@ kinds-by-symbols l r p q e = sym (kind-by-symbol l p) ∙ ap kindOfSymbol e ∙ 
 pub labels-agree-at : (l r : Head) (a b : Label) → a ≡ labelOf l → b ≡ labelOf r → eqb (a .0) (b .0) ≡ labelsAgree l r
 labels-agree-at l r a b p q = rw (p, q)
 
-pub symbols-agree-at : (l r : Head) (a b : Symbol) → symbolOf l ≡ One a → symbolOf r ≡ One b → sameSymbol a b ≡ symbolsAgree l r
-symbols-agree-at l r a b p q = ap (oneSymbol (One a)) (sym q) ∙ ap (λ s. oneSymbol s (symbolOf r)) (sym p)
+pub symbols-agree-at : (l r : Head) (a b : Symbol) → a ≡ labelAndCount l → b ≡ labelAndCount r → sameSymbol a b ≡ sameSymbol (labelAndCount l) (labelAndCount r)
+symbols-agree-at l r a b p q = rw (p, q)

@@ -10,7 +10,7 @@ use mathlib.Core.Bool.{Bool, true, false, cond, _||_, and-true, true≢false}
 use mathlib.Core.Logic.{_↔_}
 use native.Mathlib.Omega.{arith}
 use Rattle.words.specs.Word.{tagNumber, sameKind}
-use Rattle.words.specs.Head.{Counted, kindOfHead, isVariable, isFunction, symbolOf, labelsAgree, symbolsAgree, headsAgree}
+use Rattle.words.specs.Head.{Counted, kindOfHead, isVariable, isFunction, labelAndCount, symbolOf, labelsAgree, sameSymbol, headsAgree}
 use Rattle.words.specs.Meeting.{meetingOf, outcomeOf, DifferentSymbols, FunctionsOfOneSymbol}
 use Rattle.words.specs.declared.kind.Kind.{Kind}
 use Rattle.words.specs.declared.head.Head.{Head}
@@ -29,7 +29,7 @@ carriedOut JoinIfLabelsAgree labels symbols = cond labels Outcome.Joined Outcome
 carriedOut GoDownIfSymbolsAgree labels symbols = cond symbols Outcome.JoinedGoDown Outcome.Clash
 carriedOut Clash labels symbols = Outcome.Clash
 
-carried-out : (l r : Head) → carriedOut (meetingOf l r) (labelsAgree l r) (symbolsAgree l r) ≡ outcomeOf l r
+carried-out : (l r : Head) → carriedOut (meetingOf l r) (labelsAgree l r) (sameSymbol (labelAndCount l) (labelAndCount r)) ≡ outcomeOf l r
 carried-out (Variable a) r = refl
 carried-out (Constant a) (Variable b) = refl
 carried-out (Constant a) (Constant b) = rw and-true
@@ -42,7 +42,7 @@ pub outcome-by-meeting :
     (l r : Head) (action : Action) (labels symbols : Bool) →
     action ≡ meetingOf l r →
     labels ≡ labelsAgree l r →
-    symbols ≡ symbolsAgree l r →
+    symbols ≡ sameSymbol (labelAndCount l) (labelAndCount r) →
     carriedOut action labels symbols ≡ outcomeOf l r
 outcome-by-meeting l r action labels symbols p q s = rw (p, q, s) (carried-out l r)
 

@@ -7,8 +7,6 @@ use Rattle.words.specs.declared.kind.Kind.{Kind}
 use Rattle.words.specs.declared.numbers.Label.{Label}
 use Rattle.words.specs.declared.head.Head.{Head}
 use Rattle.words.specs.declared.head.Head.the-variants.{Variable, Constant, Function}
-use Rattle.words.specs.declared.head.HeadSymbol.{HeadSymbol}
-use Rattle.words.specs.declared.head.HeadSymbol.the-variants.{One, None}
 use Rattle.words.specs.declared.head.Symbol.{Symbol}
 
 -- the kind of word that stands at a node with this head
@@ -29,11 +27,22 @@ labelOf (Variable l) = l
 labelOf (Constant l) = l
 labelOf (Function l n) = l
 
+-- the label of a head with its argument count, which is 0 if it is no function
+abbrev pub labelAndCount : Head → Symbol
+labelAndCount (Variable l) = record { label = l; count = 0 }
+labelAndCount (Constant l) = record { label = l; count = 0 }
+labelAndCount (Function l n) = record { label = l; count = n }
+
+-- a symbol, or none
+pub data HeadSymbol : Type 0 where
+  One : Symbol → HeadSymbol
+  None : HeadSymbol
+
 -- "A symbol is a label with its argument count; a constant counts 0." A variable has none.
 abbrev pub symbolOf : Head → HeadSymbol
 symbolOf (Variable l) = None
-symbolOf (Constant l) = One (record { label = l; count = 0 })
-symbolOf (Function l n) = One (record { label = l; count = n })
+symbolOf (Constant l) = One (labelAndCount (Constant l))
+symbolOf (Function l n) = One (labelAndCount (Function l n))
 
 -- "a count is 0 or over 255" is a fault, so each head in a checked table is counted: a function has an argument
 abbrev pub Counted : Head → Type 0

@@ -1,6 +1,6 @@
 // What a node is at its top, and its symbol.
 ghost use mathlib.Core.Path.{_≡_};
-ghost use Rattle.words.specs.Head.{labelOf, symbolOf, sameSymbol};
+ghost use Rattle.words.specs.Head.{labelOf, labelAndCount, sameSymbol};
 use crate::numbers::Label;
 
 // A node's kind with its data: the label and, of a function, the argument count. A checked table
@@ -17,12 +17,6 @@ pub struct Symbol {
     pub count: u16,
 }
 
-// The symbol of a head, or that it has none.
-pub enum HeadSymbol {
-    One(Symbol),
-    None,
-}
-
 // The label of a head. Variable labels are a name space of their own.
 pub fn label_of(head: Head) -> Label
     ensures { λ r. ⌜ r ≡ labelOf head ⌝ }
@@ -34,14 +28,15 @@ pub fn label_of(head: Head) -> Label
     }
 }
 
-// The symbol of a head: a constant counts 0, and a variable has none.
-pub fn symbol_of(head: Head) -> HeadSymbol
-    ensures { λ r. ⌜ r ≡ symbolOf head ⌝ }
+// The label of a head with its argument count, which is 0 if it is no function. Of a constant and of a
+// function this is the symbol; a variable has none.
+pub fn label_and_count(head: Head) -> Symbol
+    ensures { λ r. ⌜ r ≡ labelAndCount head ⌝ }
 {
     match head {
-        Head::Variable(_) => HeadSymbol::None,
-        Head::Constant(label) => HeadSymbol::One(Symbol { label, count: 0 }),
-        Head::Function(label, count) => HeadSymbol::One(Symbol { label, count }),
+        Head::Variable(label) => Symbol { label, count: 0 },
+        Head::Constant(label) => Symbol { label, count: 0 },
+        Head::Function(label, count) => Symbol { label, count },
     }
 }
 

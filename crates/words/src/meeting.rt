@@ -2,11 +2,10 @@
 // what of them is compared.
 ghost use mathlib.Core.Path.{_≡_};
 ghost use Prim.Native.Nat.{_<_};
-ghost use Rattle.words.specs.Head.{labelsAgree, symbolsAgree};
+ghost use Rattle.words.specs.Head.{labelAndCount, labelsAgree, sameSymbol};
 ghost use Rattle.words.specs.Meeting.{headNumber, meetingOf, outcomeOf};
 use crate::head;
 use crate::head::Head;
-use crate::head::HeadSymbol;
 
 // What is to be done with two heads, by their kinds alone.
 pub enum Action {
@@ -58,16 +57,11 @@ fn labels_agree(left: Head, right: Head) -> bool
     head::label_of(left).0 == head::label_of(right).0
 }
 
+// Whether label and count of two heads agree.
 fn symbols_agree(left: Head, right: Head) -> bool
-    ensures { λ r. ⌜ r ≡ symbolsAgree left right ⌝ }
+    ensures { λ r. ⌜ r ≡ sameSymbol (labelAndCount left) (labelAndCount right) ⌝ }
 {
-    match head::symbol_of(left) {
-        HeadSymbol::One(a) => match head::symbol_of(right) {
-            HeadSymbol::One(b) => head::same_symbol(a, b),
-            HeadSymbol::None => false,
-        },
-        HeadSymbol::None => false,
-    }
+    head::same_symbol(head::label_and_count(left), head::label_and_count(right))
 }
 
 // What comes of two heads that meet: the table is asked, and then what its entry says is compared.
