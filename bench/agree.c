@@ -57,7 +57,7 @@ void must_agree_on_damaged_jobs(void) {
     struct numbers numbers = {1986};
     unsigned answers[12] = {0};
     for (int k = 0; k < 200000; k++) {
-        random_any(&job, 1 + below(&numbers, 60));
+        random_any(&job, 1 + below(&numbers, 60), 0);
         for (uint32_t times = below(&numbers, 4); times > 0; times--)
             damage(&job, &numbers);
         while (below(&numbers, 3) == 0)

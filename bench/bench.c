@@ -1,10 +1,11 @@
 /* Measures every family and the night, and prints one line for each, fields parted by tabs:
  *
  *   family, what it is
- *   time, family, words, pairs, answer, asked, station_match, C, station_lent, C (nanoseconds a call)
+ *   time, family, words, pairs, answer, asked, station_match, C, station_lent, C (nanoseconds a call), tables
  *   night, lists, station, C (seconds)
  *
- * 'asked' is 1 at the sizes that the goals are about; the others show how the time grows.
+ * 'asked' is 1 at the sizes that the goals are about; the others show how the time grows. Pairs and answer are
+ * those of the first table, where there are more.
  */
 #include "agree.h"
 #include "clock.h"
@@ -17,26 +18,43 @@
 /* A machine may be slow for seconds on end, so all rows are measured so many times over. */
 enum { SWEEPS = 5, MOST_ROWS = 200 };
 
+/* A processor learns the branches of one random table by heart if it has some 2,000 words, and not if it has
+ * 4,000. No night sends one table over and over, so random tables are taken by turns, so many that they have
+ * this many words together at every size.
+ */
+enum { WORDS_BY_TURNS = 32768 };
+
 struct row {
     const struct family *family;
     size_t size; /* what the family was asked for */
     int asked;
-    size_t words, pairs;
+    size_t tables, words, pairs;
     unsigned answer;
     struct times times;
 };
 
 static struct row rows[MOST_ROWS];
 static size_t row_count;
-static struct job job;
+static struct job jobs[MOST_JOBS];
+
+/* Makes the jobs of a row, and returns how many they are. */
+static size_t make_jobs(const struct family *family, size_t size) {
+    size_t tables = family->random ? WORDS_BY_TURNS / size : 1;
+    for (size_t k = 0; k < tables; k++)
+        family->make(&jobs[k], size, (uint32_t)k);
+    return tables;
+}
 
 static void add_row(const struct family *family, size_t size, int asked) {
     if (row_count == MOST_ROWS) {
         fprintf(stderr, "too many rows\n");
         exit(1);
     }
-    unsigned answer = STATION_ANSWER_OF(must_agree(&job, family->name));
-    rows[row_count++] = (struct row){family, size, asked, job.words, job.pairs, answer, no_times()};
+    size_t tables = make_jobs(family, size);
+    for (size_t k = tables; k-- > 1;)
+        must_agree(&jobs[k], family->name);
+    unsigned answer = STATION_ANSWER_OF(must_agree(&jobs[0], family->name));
+    rows[row_count++] = (struct row){family, size, asked, tables, jobs[0].words, jobs[0].pairs, answer, no_times()};
 }
 
 static int is_asked(const struct family *family, size_t size) {
@@ -53,17 +71,19 @@ static void add_family(const struct family *family) {
         int asked = is_asked(family, size), doubled = size >= 64 && (size & (size - 1)) == 0;
         if (!asked && !doubled)
             continue;
-        family->make(&job, size);
-        if (job.words > last)
+        family->make(&jobs[0], size, 0);
+        size_t words = jobs[0].words;
+        if (words > last)
             add_row(family, size, asked);
-        last = job.words;
+        last = words;
     }
 }
 
 static void print_row(const struct row *row) {
     const struct times *t = &row->times;
-    printf("time\t%s\t%zu\t%zu\t%u\t%d\t%.0f\t%.0f\t%.0f\t%.0f\n", row->family->name, row->words, row->pairs, row->answer,
-           row->asked, t->match[STATION], t->match[PLAIN], t->lent[STATION], t->lent[PLAIN]);
+    printf("time\t%s\t%zu\t%zu\t%u\t%d\t%.0f\t%.0f\t%.0f\t%.0f\t%zu\n", row->family->name, row->words, row->pairs, row->answer,
+           row->asked, t->match[STATION], t->match[PLAIN], t->lent[STATION], t->lent[PLAIN],
+           row->tables);
 }
 
 int main(void) {
@@ -74,8 +94,8 @@ int main(void) {
     }
     for (int sweep = 0; sweep < SWEEPS; sweep++)
         for (size_t k = 0; k < row_count; k++) {
-            rows[k].family->make(&job, rows[k].size);
-            measure(&job, &rows[k].times);
+            size_t tables = make_jobs(rows[k].family, rows[k].size);
+            measure(jobs, tables, &rows[k].times);
         }
     for (size_t k = 0; k < row_count; k++)
         print_row(&rows[k]);

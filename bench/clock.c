@@ -3,8 +3,8 @@
 
 #include <time.h>
 
-enum { LEAST_ROUNDS = 20 };
-static const double NEVER = 1e18, BATCH = 20e3, ALL_ROUNDS = 20e6; /* nanoseconds */
+enum { LEAST_BATCHES = 20 };
+static const double NEVER = 1e18, BATCH = 20e3, ALL_BATCHES = 20e6; /* nanoseconds */
 
 double now(void) {
     struct timespec time;
@@ -13,40 +13,54 @@ double now(void) {
 }
 
 static uint16_t classes[MOST_WORDS], work[4 * MOST_WORDS];
-static uint8_t file[FILE_ROOM], room[6 + 2 * MOST_WORDS];
-static size_t file_length;
+static uint8_t room[6 + 2 * MOST_WORDS];
 
-static void call_lent(const struct side *side, const struct job *job) {
+/* The jobs of a measurement, and their files, one behind the other. */
+static const struct job *jobs;
+static size_t job_count;
+static uint8_t files[FILES_ROOM];
+static size_t file_at[MOST_JOBS + 1];
+
+static void take(const struct job *taken, size_t count) {
+    jobs = taken;
+    job_count = count;
+    file_at[0] = 0;
+    for (size_t k = 0; k < count; k++)
+        file_at[k + 1] = file_at[k] + file_of(&taken[k], files + file_at[k]);
+}
+
+static void call_lent(const struct side *side, size_t k) {
+    const struct job *job = &jobs[k];
     side->lent(job->table, job->words, job->list, 2 * job->pairs, classes, MOST_WORDS, work, 4 * MOST_WORDS);
 }
 
-static void call_match(const struct side *side, const struct job *job) {
-    (void)job;
-    side->match(file, file_length, 1, room, sizeof room);
+static void call_match(const struct side *side, size_t k) {
+    side->match(files + file_at[k], file_at[k + 1] - file_at[k], 1, room, sizeof room);
 }
 
-typedef void call(const struct side *side, const struct job *job);
+typedef void call(const struct side *side, size_t k);
 
-/* Nanoseconds of so many calls, for each. */
-static double batch(call *call, const struct side *side, const struct job *job, int calls) {
+/* Nanoseconds a call, all jobs taken by turns so many times. */
+static double batch(call *call, const struct side *side, int rounds) {
     double began = now();
-    for (int k = 0; k < calls; k++)
-        call(side, job);
-    return (now() - began) / calls;
+    for (int round = 0; round < rounds; round++)
+        for (size_t k = 0; k < job_count; k++)
+            call(side, k);
+    return (now() - began) / (double)rounds / (double)job_count;
 }
 
-/* So many calls that the clock's own time does not show. */
-static int calls_a_batch(call *call, const struct job *job) {
-    double once = batch(call, &sides[PLAIN], job, 10);
+/* So many rounds that the clock's own time does not show. */
+static int rounds_a_batch(call *call) {
+    double once = batch(call, &sides[PLAIN], 10) * (double)job_count;
     return once >= BATCH ? 1 : (int)(BATCH / once) + 1;
 }
 
-static void best(call *call, const struct job *job, double times[SIDES]) {
-    int calls = calls_a_batch(call, job);
+static void best(call *call, double times[SIDES]) {
+    int rounds = rounds_a_batch(call);
     double began = now();
-    for (int round = 0; round < LEAST_ROUNDS || now() - began < ALL_ROUNDS; round++)
+    for (int done = 0; done < LEAST_BATCHES || now() - began < ALL_BATCHES; done++)
         for (int side = 0; side < SIDES; side++) {
-            double time = batch(call, &sides[side], job, calls);
+            double time = batch(call, &sides[side], rounds);
             if (time < times[side])
                 times[side] = time;
         }
@@ -59,8 +73,8 @@ struct times no_times(void) {
     return times;
 }
 
-void measure(const struct job *job, struct times *times) {
-    file_length = file_of(job, file);
-    best(call_lent, job, times->lent);
-    best(call_match, job, times->match);
+void measure(const struct job *taken, size_t count, struct times *times) {
+    take(taken, count);
+    best(call_lent, times->lent);
+    best(call_match, times->match);
 }

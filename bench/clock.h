@@ -5,14 +5,17 @@
 #include "job.h"
 #include "sides.h"
 
+/* A measurement takes at most so many jobs, and files of so many bytes together. */
+enum { MOST_JOBS = 512, FILES_ROOM = 512 * 1024 };
+
 struct times {
     double lent[SIDES], match[SIDES]; /* nanoseconds a call */
 };
 
 struct times no_times(void);
 
-/* Runs the job often, and keeps what is shorter than before. */
-void measure(const struct job *job, struct times *times);
+/* Runs the jobs often, one after the other, and keeps what is shorter than before. */
+void measure(const struct job *jobs, size_t count, struct times *times);
 
 double now(void);
 

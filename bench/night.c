@@ -24,9 +24,9 @@ static void make_night(void) {
     for (int k = 0; k < NIGHT_LISTS; k++) {
         size_t words = LEAST_WORDS + below(&numbers, WORDS_MORE);
         if (k % 2 == 0)
-            random_met(&job, words);
+            random_met(&job, words, (uint32_t)k);
         else
-            random_any(&job, words);
+            random_any(&job, words, (uint32_t)k);
         must_agree(&job, "a list of the night");
         files[k].length = file_of(&job, bytes);
         if ((files[k].bytes = malloc(files[k].length)) == NULL)

@@ -58,9 +58,9 @@ static int can_be_met(const struct job *job) {
     return STATION_ANSWER_OF(result) == STATION_ACCEPTED;
 }
 
-static void random_job(struct job *job, size_t words, int only_met) {
+static void random_job(struct job *job, size_t words, uint32_t which, int only_met) {
     static struct nodes nodes;
-    struct numbers numbers = {0x9e3779b97f4a7c15u + words};
+    struct numbers numbers = {0x9e3779b97f4a7c15u + words + ((uint64_t)which << 32)};
     random_table(job, &nodes, &numbers, words);
     for (size_t tries = words / 8; tries > 0 && job->pairs < words / 16; tries--) {
         uint16_t left = nodes.at[below(&numbers, nodes.count)];
@@ -70,10 +70,10 @@ static void random_job(struct job *job, size_t words, int only_met) {
     }
 }
 
-void random_met(struct job *job, size_t words) {
-    random_job(job, words, 1);
+void random_met(struct job *job, size_t words, uint32_t which) {
+    random_job(job, words, which, 1);
 }
 
-void random_any(struct job *job, size_t words) {
-    random_job(job, words, 0);
+void random_any(struct job *job, size_t words, uint32_t which) {
+    random_job(job, words, which, 0);
 }

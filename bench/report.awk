@@ -8,7 +8,7 @@ $1 == "family" { family[++families] = $2; what[$2] = $3 }
 
 $1 == "time" {
     name = $2; words = $3; asked = $6
-    row = sprintf("| %s | %d | %d | %d | %d | %d | %.2f | %d | %d | %.2f |\n", name, words, $4, $5, $7, $8, $7 / $8, $9, $10, $9 / $10)
+    row = sprintf("| %s | %d | %d | %d | %d | %d | %d | %.2f | %d | %d | %.2f |\n", name, words, $4, $5, $11, $7, $8, $7 / $8, $9, $10, $9 / $10)
     if (asked) {
         asked_rows = asked_rows row
         judge("station_match", name, words, $7 / $8)
@@ -61,8 +61,8 @@ END {
     goals("station_lent")
     growth()
     print "\n## The jobs that the goals are about\n"
-    print "Nanoseconds a call. A ratio under 1 says that the station is faster. The buffers held the last call's answer and were not cleared before.\n"
-    head = "| family | words | pairs | answer | station_match | C | ratio | station_lent | C | ratio |\n|---|---|---|---|---|---|---|---|---|---|"
+    print "Nanoseconds a call. A ratio under 1 says that the station is faster. The buffers held the last call's answer and were not cleared before. Random tables are taken by turns, so many that they have 32,768 words together; pairs and answer are those of the first.\n"
+    head = "| family | words | pairs | answer | tables | station_match | C | ratio | station_lent | C | ratio |\n|---|---|---|---|---|---|---|---|---|---|---|"
     print head; printf "%s", asked_rows
     print "\n| family | what it is | time against words |\n|---|---|---|"
     for (i = 1; i <= families; i++)

@@ -66,15 +66,20 @@ static inline int join_pair(struct forest *forest, uint32_t left, uint32_t right
     return 1;
 }
 
-/* Each node gets its root. Most have it already, and then nothing is written. Returns the joins. */
-static inline uint16_t flatten(size_t n, uint16_t *class) {
-    uint16_t joins = 0;
+/* Each node gets its root. Most have it already, and then nothing is written. */
+static inline void flatten(size_t n, uint16_t *class) {
     for (uint32_t x = 1; x < n; x++) {
         uint32_t name = class[x];
         if (class[name] != name)
-            class[x] = (uint16_t)(name = root(class, name));
-        joins += name != x && name != 0;
+            class[x] = (uint16_t)root(class, name);
     }
+}
+
+/* The nodes that have another name than their own. What is no node has entry 0. */
+static inline uint16_t count_joins(size_t n, const uint16_t *class) {
+    uint16_t joins = 0;
+    for (size_t x = 0; x < n; x++)
+        joins += (class[x] != (uint16_t)x) & (class[x] != 0);
     return joins;
 }
 
@@ -91,7 +96,8 @@ static inline struct joined join(const uint32_t *table, size_t n, const uint16_t
     for (size_t k = 0; k < pairs; k++)
         if (!join_pair(&forest, list[2 * k], list[2 * k + 1]))
             return (struct joined){k, 0};
-    return (struct joined){pairs, flatten(n, class)};
+    flatten(n, class);
+    return (struct joined){pairs, count_joins(n, class)};
 }
 
 #endif
