@@ -4,7 +4,7 @@ use mathlib.Core.Path.{_≡_, refl, ap, _∙_}
 use mathlib.Core.Logic.{_⊎_, inl, inr}
 use mathlib.Core.List.{List, [], _∷_, _++_}
 use Prim.Native.Nat.{ℕ, _*_, _≤_, _<_}
-use native.Mathlib.Decide.{ℕ-discrete, decLt}
+use native.Mathlib.Decide.{ℕ-discrete}
 use native.Mathlib.Omega.{arith}
 use lib.ListN.{length, drop, replicate, length-append, length-replicate, length-drop}
 use Rattle.table.specs.Answers.{Answered}
@@ -13,6 +13,7 @@ use Rattle.checker.specs.declared.answer.Checked.{Checked}
 use Rattle.checker.specs.Check.{zeroed, CheckOf, numberOf as checkNumber, placeOf as checkPlace, jobOf as checkedJob}
 use Rattle.matcher.specs.declared.answer.Matched.{Matched}
 use Rattle.matcher.specs.Match.{numberOf, placeOf, MatchOf, jobOf}
+use Rattle.matcher.proofs.Verdicts.{at-most}
 use Rattle.jobfile.specs.declared.answers.WriteAnswer.{WriteAnswer}
 use Rattle.jobfile.specs.declared.answers.WriteAnswer.the-variants.{Written, Contents, Body, File, Room as NoRoom}
 use Rattle.jobfile.specs.File.{fileOf}
@@ -20,13 +21,6 @@ use Rattle.jobfile.specs.Faults.{WriteFault, room-refused, writeOrder, number a
 use Rattle.jobfile.specs.Writer.{WriteOf, numberOf as writeNumber}
 use Rattle.jobfile.proofs.Theorems.{writer-writes-good}
 use Rattle.demands.proofs.Buffers.{cleared-not, cleared-late, left-not, left-late, write-untouched}
-
-pub at-most : {a b : ℕ} → (b < a → ⊥) → a ≤ b
-at-most {a} {b} none = go (decLt b a)
-  where
-    go : Dec (b < a) → a ≤ b
-    go (yes h) = absurd (none h)
-    go (no h) = omega arith
 
 -- a front of n entries, and of a row of at least n what stands behind them
 pub front-length : {n : ℕ} (front row : List ℕ) → length front ≡ n → n ≤ length row → length (front ++ drop n row) ≡ length row

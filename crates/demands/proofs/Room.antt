@@ -14,12 +14,13 @@ use Rattle.graphs.proofs.Classes.{never}
 use Rattle.table.specs.Table.{graphOf}
 use Rattle.table.specs.Answers.{Answered}
 use Rattle.table.specs.Faults.{pairsOf}
+use Rattle.matcher.proofs.Verdicts.{at-most}
 use Rattle.jobfile.specs.File.{bodyIn}
 use Rattle.jobfile.specs.Faults.{number as fileNumber}
 use Rattle.jobfile.proofs.NumberLaws.{length-bytesOfRow, length-rowIn}
 use Rattle.station.specs.Host.{entryOf, wordsOf, tableOf, listOf, Row, number, HostFault, room-fault, hostOrder, reportOf, writesNothing, roomAfter, HostOf}
 use Rattle.station.proofs.ChoiceLaws.{host-positive}
-use Rattle.demands.proofs.Lengths.{at-most, front-length}
+use Rattle.demands.proofs.Lengths.{front-length}
 
 length-report : (a p j : ℕ) (classes : List ℕ) → length (reportOf a p j classes) ≡ 6 + 2 * length classes
 unfolding reportOf

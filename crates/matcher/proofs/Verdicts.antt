@@ -218,6 +218,13 @@ both-kinds true true e = (refl, refl)
 both-kinds true false e = never (cc)
 both-kinds false b e = never (cc)
 
+pub at-most : {a b : ℕ} → (b < a → ⊥) → a ≤ b
+at-most {a} {b} none = go (decLt b a)
+  where
+    go : Dec (b < a) → a ≤ b
+    go (yes h) = absurd (none h)
+    go (no h) = omega arith
+
 module _ {job : Job} (passes : Passes job) where
   some-word-there : 0 < length (job .table)
   unfolding number
@@ -226,13 +233,6 @@ module _ {job : Job} (passes : Passes job) where
       go : Dec (0 < length (job .table)) → 0 < length (job .table)
       go (yes h) = h
       go (no h) = absurd (passes SIZE 0 (omega arith) (size-fault (inl (omega arith))))
-
-  at-most : {a b : ℕ} → (b < a → ⊥) → a ≤ b
-  at-most {a} {b} f = go (decLt b a)
-    where
-      go : Dec (b < a) → a ≤ b
-      go (yes h) = absurd (f h)
-      go (no h) = omega arith
 
   even-there : odd (job .list) ≡ false
   unfolding number
