@@ -4,7 +4,6 @@
 // Pairs are joined up to the first clash, and what is joined is searched for a cycle once. If there is
 // one, the first pair that closes one is found by halving: more pairs never undo a cycle, no pairs have
 // none, and each half is joined afresh. That takes at most nine searches for 256 pairs.
-ghost use mathlib.Core.Path.{_≡_};
 ghost use Prim.Native.Nat.{_≤_};
 ghost use lib.ListN.{length, take};
 ghost use Rattle.graphs.specs.Partition.{Cycle};

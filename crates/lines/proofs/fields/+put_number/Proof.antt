@@ -1,9 +1,7 @@
 -- `lines::fields::put_number` meets its contract, by its own contract at a tenth of the number. The measure is the number.
 -- Assumes nothing.
-use mathlib.Core.Path.{_≡_, _∙_}
 use native.Mathlib.Omega.{arith}
 use lib.ListN.{length-set}
-use borrow.Author.Needs.{needs}
 use Rattle.lines.proofs.Decimals.{decimal-one, decimal-longer}
 use Rattle.lines.proofs.LineLaws.{store-digit, store-digits}
 use Prim.Native.Nat.{ℕ, _<_}
