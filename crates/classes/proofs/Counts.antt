@@ -41,7 +41,7 @@ count-one f g (suc n) m h p q other = go (λ below. count-one f g n m below p q 
 abbrev pub ownNode : {S : Symbols} → Graph S → List ℕ → ℕ → Bool
 ownNode G row x = isNode (G .head x) && eqb (entry row x) x
 
-node-is : {S : Symbols} {G : Graph S} {x : ℕ} → Node G x → isNode (G .head x) ≡ true
+pub node-is : {S : Symbols} {G : Graph S} {x : ℕ} → Node G x → isNode (G .head x) ≡ true
 unfolding isNode
 node-is (variable-node e) = ap isNode e
 node-is (symbol-node e) = ap isNode e

@@ -78,10 +78,13 @@ fn meet_roots(
     requires { ⌜ PassedCheck (now table) × State (now table) (now class) (now work) waiting × Roots (now table) (now class) (a .0) (b .0) ⌝ }
     ensures { λ r. ⌜ Meets (now (table .entry)) (now (class .entry)) (now (work .entry)) waiting (a .0) (b .0) (now (class .exit)) (now (work .exit)) r ⌝ }
 {
+    let mut name = b;
+    let mut later = a;
     if key(table, a) < key(table, b) {
-        return meet_ordered(table, class, work, waiting, a, b);
+        name = a;
+        later = b;
     }
-    meet_ordered(table, class, work, waiting, b, a)
+    meet_ordered(table, class, work, waiting, name, later)
 }
 
 // Two nodes meet.

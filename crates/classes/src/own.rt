@@ -6,7 +6,7 @@ ghost use lib.ListN.{length, drop};
 ghost use Rattle.graphs.specs.Log.{apart as apartIn};
 ghost use Rattle.graphs.specs.Partition.{joins};
 ghost use Rattle.table.specs.Table.{graphOf};
-use words::numbers::Address;
+ghost use Rattle.classes.specs.Counting.{NamesNodes};
 
 // Each node becomes its own class; the other entries in use become 0.
 pub fn apart(table: &[u32], class: &mut [u16])
@@ -15,9 +15,8 @@ pub fn apart(table: &[u32], class: &mut [u16])
 {
     let mut x = 0;
     while x < table.len() {
-        let at = Address(x as u16);
-        if table::is_node(table, at) {
-            class[x] = at.0;
+        if table::is_node_word(table[x]) {
+            class[x] = x as u16;
         } else {
             class[x] = 0;
         }
@@ -25,16 +24,16 @@ pub fn apart(table: &[u32], class: &mut [u16])
     }
 }
 
-// The number of nodes less the number of classes: how many nodes have another name than their own.
+// The number of nodes less the number of classes: how many nodes have another name than their own. The
+// row tells it without the words, since an entry is 0 just where no node is.
 pub fn count_joins(table: &[u32], class: &[u16]) -> u16
-    requires { ⌜ (length (now table) ≤ length (now class)) × (length (now table) ≤ 4096) ⌝ }
+    requires { ⌜ (length (now table) ≤ length (now class)) × (length (now table) ≤ 4096) × NamesNodes (graphOf (now table)) (now class) ⌝ }
     ensures { λ r. ⌜ r ≡ joins (graphOf (now (table .entry))) (now (class .entry)) ⌝ }
 {
     let mut joined = 0;
     let mut x = 0;
     while x < table.len() {
-        let at = Address(x as u16);
-        if table::is_node(table, at) && class[x] != at.0 {
+        if class[x] != 0 && class[x] != x as u16 {
             joined += 1;
         }
         x += 1;

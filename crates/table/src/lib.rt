@@ -10,3 +10,4 @@ pub use node::child;
 pub use node::degree;
 pub use node::head;
 pub use node::is_node;
+pub use node::is_node_word;

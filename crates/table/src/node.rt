@@ -2,12 +2,20 @@
 ghost use mathlib.Core.Path.{_≡_};
 ghost use Prim.Native.Nat.{_+_, _<_, _≤_};
 ghost use lib.ListN.{length};
+ghost use Rattle.words.specs.Word.{kindOf};
 ghost use Rattle.table.specs.Heads.{top};
 ghost use Rattle.table.specs.Table.{kindAt, nodeKind, named, degree as degreeAt, childOf, Laid};
 use crate::kinds;
 use words::head::Head;
 use words::numbers::Address;
 use words::word;
+
+// Whether a word is a node.
+pub fn is_node_word(word: u32) -> bool
+    ensures { λ r. ⌜ r ≡ nodeKind (kindOf word) ⌝ }
+{
+    kinds::is_node_kind(word::kind(word))
+}
 
 // Whether the word at an address is a node. No address past the end is.
 pub fn is_node(table: &[u32], x: Address) -> bool
@@ -17,7 +25,7 @@ pub fn is_node(table: &[u32], x: Address) -> bool
     if table.len() <= at {
         return false;
     }
-    kinds::is_node_kind(word::kind(table[at]))
+    is_node_word(table[at])
 }
 
 // How many children the node at an address has.

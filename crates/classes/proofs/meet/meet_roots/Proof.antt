@@ -1,8 +1,9 @@
 -- `classes::meet::meet_roots` meets its contract: the roots meet in the naming order.
 -- Assumes nothing.
+use mathlib.Core.Logic.{⊎-elim}
 use borrow.Author.Needs.{needs}
 use Rattle.table.proofs.Shape.{shaped-laid}
-use Rattle.classes.proofs.Linked.{left-first, right-first, meets-turned}
+use Rattle.classes.proofs.InOrder.{left-first, right-first, meets-turned, ordered-as, meets-as}
 use Rattle.classes.proofs.meet.meet_roots.Statement.{statement}
 use Rattle.classes.proofs.meet.meet_roots.Tie as tie
 
@@ -21,7 +22,14 @@ meet-ordered-requires c κs =
     let p : tie.Start = search needs in
     let k : tie.After-key = search needs in
     let l : tie.After-key2 = search needs in
-    (p .pre .0, p .pre .1, left-first (p .pre .0) (p .pre .2) (k .key .ensures) (l .key2 .ensures) (c .before .before .if1 .taken))
+    (
+      p .pre .0,
+      p .pre .1,
+      ⊎-elim
+      (λ w. ordered-as (w .1) (w .2) (left-first (p .pre .0) (p .pre .2) (k .key .ensures) (l .key2 .ensures) (w .0 .taken)))
+      (λ w. ordered-as (w .1) (w .2) (right-first (p .pre .0) (p .pre .2) (k .key .ensures) (l .key2 .ensures) (w .0 .left)))
+      (c .before .before .if1 .came),
+    )
 
 same-length : tie.Need-same-length
 same-length c = search needs
@@ -30,38 +38,13 @@ same-length-2 : tie.Need-same-length-2
 same-length-2 c = search needs
 
 returns : tie.Need-returns
-returns c = search needs
-
-meet-ordered-requires-2 : tie.Need-meet-ordered-requires-2
-meet-ordered-requires-2 c κs =
+returns c =
     let p : tie.Start = search needs in
-    let k : tie.After-key = search needs in
-    let l : tie.After-key2 = search needs in
-    (p .pre .0, p .pre .1, right-first (p .pre .0) (p .pre .2) (k .key .ensures) (l .key2 .ensures) (c .before .before .if1 .left))
-
-same-length-3 : tie.Need-same-length-3
-same-length-3 c = search needs
-
-same-length-4 : tie.Need-same-length-4
-same-length-4 c = search needs
-
-returns-2 : tie.Need-returns-2
-returns-2 c =
-    let p : tie.Start = search needs in
-    let m : tie.After-meet-ordered2 = search needs in
-    meets-turned (p .pre .1) (m .meet-ordered2 .ensures)
+    let j : tie.Joined1 = search needs in
+    let m : tie.After-meet-ordered = search needs in
+    ⊎-elim (λ w. meets-as (w .1) (w .2) (m .meet-ordered .ensures)) (λ w. meets-turned (p .pre .1) (meets-as (w .1) (w .2) (m .meet-ordered .ensures))) (j .if1 .came)
 
 pub meet-roots-spec : {M : Type 1} → statement M
 meet-roots-spec =
     tie.close
-    (tie.spec
-    key-requires
-    key-requires-2
-    meet-ordered-requires
-    same-length
-    same-length-2
-    returns
-    meet-ordered-requires-2
-    same-length-3
-    same-length-4
-    returns-2)
+    (tie.spec key-requires key-requires-2 meet-ordered-requires same-length same-length-2 returns)

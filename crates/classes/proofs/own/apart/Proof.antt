@@ -24,13 +24,19 @@ loop-holds c =
     let p : tie.Start Inv-loop μ-loop = search needs in
     built-none (apart-long (p .args .table .now)) (p .pre .0)
 
-cast-t7 : tie.Need-cast-t7 Inv-loop μ-loop
-cast-t7 c =
+mul-is-node-word : tie.Need-mul-is-node-word Inv-loop μ-loop
+mul-is-node-word c = search needs
+
+shared-slice-read-is-node-word : tie.Need-shared-slice-read-is-node-word Inv-loop μ-loop
+shared-slice-read-is-node-word c = search needs
+
+is-node-word-requires : tie.Need-is-node-word-requires Inv-loop μ-loop
+is-node-word-requires c κs = search needs
+
+cast-class : tie.Need-cast-class Inv-loop μ-loop
+cast-class c =
     let p : tie.Start Inv-loop μ-loop = search needs in
     omega (arith, p .pre .1)
-
-is-node-requires : tie.Need-is-node-requires Inv-loop μ-loop
-is-node-requires c κs = search needs
 
 mul-class : tie.Need-mul-class Inv-loop μ-loop
 mul-class c = search needs
@@ -58,10 +64,10 @@ loop-again : tie.Need-loop-again Inv-loop μ-loop
 loop-again c =
     let p : tie.Start Inv-loop μ-loop = search needs in
     let o : tie.At-loop Inv-loop μ-loop = search needs in
-    let n : tie.After-is-node Inv-loop μ-loop = search needs in
+    let n : tie.After-is-node-word Inv-loop μ-loop = search needs in
     ⊎-elim
-    (λ w. apart-more (p .args .table .now) (o .loop .inv) (search needs) (n .is-node .ensures) (sym (ap (λ (b : Bool). cond b (o .loop .x) 0) (w .0 .taken))) (w .1))
-    (λ w. apart-more (p .args .table .now) (o .loop .inv) (search needs) (n .is-node .ensures) (sym (ap (λ (b : Bool). cond b (o .loop .x) 0) (w .0 .left))) (w .1))
+    (λ w. apart-more (p .args .table .now) (o .loop .inv) (search needs) (n .is-node-word .ensures) (sym (ap (λ (b : Bool). cond b (o .loop .x) 0) (w .0 .taken))) (w .1))
+    (λ w. apart-more (p .args .table .now) (o .loop .inv) (search needs) (n .is-node-word .ensures) (sym (ap (λ (b : Bool). cond b (o .loop .x) 0) (w .0 .left))) (w .1))
     (c .if1 .came)
 
 same-length : tie.Need-same-length Inv-loop μ-loop
@@ -77,8 +83,10 @@ apart-spec =
     Inv-loop
     μ-loop
     loop-holds
-    cast-t7
-    is-node-requires
+    mul-is-node-word
+    shared-slice-read-is-node-word
+    is-node-word-requires
+    cast-class
     mul-class
     slice-write-class
     mul-class-2

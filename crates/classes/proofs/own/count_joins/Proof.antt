@@ -8,7 +8,7 @@ use borrow.Author.Needs.{needs}
 use lib.Dec.{eqb}
 use lib.ListN.{length}
 use Rattle.graphs.specs.Partition.{entry}
-use Rattle.classes.proofs.OwnClasses.{Counted, other-name, own-name, no-name, counted-none, counted-more, counted-all}
+use Rattle.classes.proofs.CountedJoins.{Counted, entry-node, entry-none, other-name, own-name, no-name, counted-none, counted-more, counted-all}
 use Rattle.classes.proofs.own.count_joins.Statement.{statement}
 use Rattle.classes.proofs.own.count_joins.Tie as tie
 
@@ -23,13 +23,13 @@ loop-holds c =
     let p : tie.Start Inv-loop μ-loop = search needs in
     counted-none (p .args .table .now) (p .args .class .now)
 
-cast-t8 : tie.Need-cast-t8 Inv-loop μ-loop
-cast-t8 c =
-    let p : tie.Start Inv-loop μ-loop = search needs in
-    omega (arith, p .pre .1)
+mul-if1 : tie.Need-mul-if1 Inv-loop μ-loop
+mul-if1 c = search needs
 
-is-node-requires : tie.Need-is-node-requires Inv-loop μ-loop
-is-node-requires c κs = search needs
+shared-slice-read-if1 : tie.Need-shared-slice-read-if1 Inv-loop μ-loop
+shared-slice-read-if1 c =
+    let p : tie.Start Inv-loop μ-loop = search needs in
+    omega (arith, p .pre .0)
 
 mul-if2 : tie.Need-mul-if2 Inv-loop μ-loop
 mul-if2 c = search needs
@@ -38,6 +38,11 @@ shared-slice-read-if2 : tie.Need-shared-slice-read-if2 Inv-loop μ-loop
 shared-slice-read-if2 c =
     let p : tie.Start Inv-loop μ-loop = search needs in
     omega (arith, p .pre .0)
+
+cast-if2 : tie.Need-cast-if2 Inv-loop μ-loop
+cast-if2 c =
+    let p : tie.Start Inv-loop μ-loop = search needs in
+    omega (arith, p .pre .1)
 
 add-joined : tie.Need-add-joined Inv-loop μ-loop
 add-joined c =
@@ -55,11 +60,10 @@ loop-again : tie.Need-loop-again Inv-loop μ-loop
 loop-again c =
     let p : tie.Start Inv-loop μ-loop = search needs in
     let o : tie.At-loop Inv-loop μ-loop = search needs in
-    let n : tie.After-is-node Inv-loop μ-loop = search needs in
     ⊎-elim
-    (λ w. counted-more (o .loop .inv) (search needs) (omega (arith, w .4, other-name (n .is-node .ensures) (w .0 .taken) (w .3 .taken))))
+    (λ w. counted-more (o .loop .inv) (search needs) (omega (arith, w .3, other-name (entry-node (p .pre .2) (o .loop .x) (search needs) (w .0 .taken)) (w .2 .taken))))
     (λ w. counted-more (o .loop .inv) (search needs)
-    (⊎-elim (λ v. omega (arith, w .1, own-name (n .is-node .ensures) (v .0 .taken) (v .3 .left))) (λ v. omega (arith, w .1, no-name (not (eqb (entry (p .args .class .now) (o .loop .x)) (o .loop .x))) (n .is-node .ensures) (v .left))) (w .0 .came)))
+    (⊎-elim (λ v. omega (arith, w .1, own-name (entry-node (p .pre .2) (o .loop .x) (search needs) (v .0 .taken)) (v .2 .left))) (λ v. omega (arith, w .1, no-name (not (eqb (entry (p .args .class .now) (o .loop .x)) (o .loop .x))) (entry-none (p .pre .2) (o .loop .x) (v .left)))) (w .0 .came)))
     (c .if1 .came)
 
 returns : tie.Need-returns Inv-loop μ-loop
@@ -72,10 +76,11 @@ count-joins-spec =
     Inv-loop
     μ-loop
     loop-holds
-    cast-t8
-    is-node-requires
+    mul-if1
+    shared-slice-read-if1
     mul-if2
     shared-slice-read-if2
+    cast-if2
     add-joined
     add-x
     loop-less

@@ -1,6 +1,6 @@
 -- `table::node::is_node` meets its contract.
 -- Assumes nothing.
-use mathlib.Core.Path.{sym, ap, _∙_}
+use mathlib.Core.Path.{sym, ap}
 use borrow.Author.Needs.{needs}
 use Rattle.table.specs.Table.{nodeKind}
 use Rattle.table.proofs.Leaves.{past-end}
@@ -11,22 +11,21 @@ cast-at : tie.Need-cast-at
 cast-at c = search needs
 
 returns : tie.Need-returns
-returns c = sym (ap nodeKind (past-end (c .before .before .before .args .table .now) (c .before .before .before .args .x .0) (c .if1 .taken)))
+returns c =
+    let p : tie.Start = search needs in
+    sym (ap nodeKind (past-end (p .args .table .now) (p .args .x .0) (c .if1 .taken)))
 
-mul-kind : tie.Need-mul-kind
-mul-kind c = search needs
+mul-is-node-word : tie.Need-mul-is-node-word
+mul-is-node-word c = search needs
 
-shared-slice-read-kind : tie.Need-shared-slice-read-kind
-shared-slice-read-kind c = search needs
+shared-slice-read-is-node-word : tie.Need-shared-slice-read-is-node-word
+shared-slice-read-is-node-word c = search needs
 
-kind-requires : tie.Need-kind-requires
-kind-requires c κs = search needs
-
-is-node-kind-requires : tie.Need-is-node-kind-requires
-is-node-kind-requires c κs = search needs
+is-node-word-requires : tie.Need-is-node-word-requires
+is-node-word-requires c κs = search needs
 
 returns-2 : tie.Need-returns-2
-returns-2 c = c .is-node-kind .ensures ∙ ap nodeKind (c .before .kind .ensures)
+returns-2 c = search needs
 
 pub is-node-spec : {M : Type 1} → statement M
 is-node-spec =
@@ -34,8 +33,7 @@ is-node-spec =
     (tie.spec
     cast-at
     returns
-    mul-kind
-    shared-slice-read-kind
-    kind-requires
-    is-node-kind-requires
+    mul-is-node-word
+    shared-slice-read-is-node-word
+    is-node-word-requires
     returns-2)
