@@ -19,8 +19,7 @@ use Rattle.graphs.proofs.Certificates.{key-symbol, key-variable}
 use Rattle.graphs.proofs.Classes.{never, nothing-no-node}
 use Rattle.table.specs.Table.{TableSymbols, graphOf, degree, childOf}
 use Rattle.classes.specs.Forest.{Forest}
-use Rattle.classes.specs.Meeting.{PassedCheck, OneSymbol, waitingLeft, waitingRight, State, Config, Within, Agrees, Complete, Moved, Stopped, Meets, Roots, Ordered}
-use Rattle.classes.specs.declared.meet.Turn.{Turn}
+use Rattle.classes.specs.Meeting.{PassedCheck, OneSymbol, waitingLeft, waitingRight, State, Config, Within, Agrees, Complete, Moved, Stopped, Ordered}
 use Rattle.classes.proofs.Symbols.{one-symbol-degree, head-of-degree}
 use Rattle.classes.proofs.Heads.{Plain, left-variable, right-variable, constants, DifferentSymbols}
 use Rattle.classes.proofs.Counts.{count-one, ownNode, own-counts, other-passes}

@@ -21,6 +21,8 @@ use Rattle.table.specs.Faults.{pairsOf, Fault, number, matchOrder}
 use Rattle.checker.specs.Check.{zeroed}
 use Rattle.cycles.specs.Net.{Searchable, Searched}
 use Rattle.classes.specs.declared.joining.Joined.{Joined}
+use Rattle.classes.specs.Counting.{NamesNodes}
+use Rattle.classes.proofs.CountedJoins.{front-names-nodes}
 use Rattle.classes.proofs.Counts.{count-same, ownNode}
 use Rattle.matcher.specs.declared.answer.Matched.{Matched}
 use Rattle.matcher.specs.Match.{jobOf, Passes}
@@ -37,6 +39,10 @@ module _ {t list class work : List ℕ} {k : ℕ} (s : Standing t list class wor
   row-searchable =
       class-searchable class (s .ready .shaped) (s .ready .well-formed) (first-sides (s .ready .sides) k inside) (p .class-table) (s .ready .class-enough)
       (s .ready .small) (length work) (omega (arith, s .ready .work-enough))
+
+  -- so the joins can be counted by the row alone
+  pub row-names-nodes : NamesNodes (graphOf t) class
+  row-names-nodes = front-names-nodes t class (s .ready .well-formed) (first-sides (s .ready .sides) k inside) (p .class-table)
 
   module _ {found : Bool} {work-after : List ℕ} (searched : Searched t class work found work-after) where
     pub row-tells : Cycles found (graphOf t) (take k (pairsOf list))

@@ -21,14 +21,13 @@ meet-ordered-requires : tie.Need-meet-ordered-requires
 meet-ordered-requires c κs =
     let p : tie.Start = search needs in
     let k : tie.After-key = search needs in
-    let l : tie.After-key2 = search needs in
-    (
+    let l : tie.After-key2 = search needs in (
       p .pre .0,
       p .pre .1,
       ⊎-elim
-      (λ w. ordered-as (w .1) (w .2) (left-first (p .pre .0) (p .pre .2) (k .key .ensures) (l .key2 .ensures) (w .0 .taken)))
-      (λ w. ordered-as (w .1) (w .2) (right-first (p .pre .0) (p .pre .2) (k .key .ensures) (l .key2 .ensures) (w .0 .left)))
-      (c .before .before .if1 .came),
+          (λ w. ordered-as (w .1) (w .2) (left-first (p .pre .0) (p .pre .2) (k .key .ensures) (l .key2 .ensures) (w .0 .taken)))
+          (λ w. ordered-as (w .1) (w .2) (right-first (p .pre .0) (p .pre .2) (k .key .ensures) (l .key2 .ensures) (w .0 .left)))
+          (c .before .before .if1 .came),
     )
 
 same-length : tie.Need-same-length

@@ -5,7 +5,7 @@ use native.Mathlib.Omega.{arith}
 use borrow.Author.Needs.{needs}
 use Rattle.table.proofs.Pairs.{length-pairsOf, length-pairsOf-over}
 use Rattle.matcher.proofs.FirstPairs.{standing-after}
-use Rattle.matcher.proofs.Halving.{row-searchable, told, cycle-found, cycle-refused, clash-verdict, accepted-verdict}
+use Rattle.matcher.proofs.Halving.{row-searchable, row-names-nodes, told, cycle-found, cycle-refused, clash-verdict, accepted-verdict}
 use Rattle.matcher.proofs.first_failure.unify.Statement.{statement}
 use Rattle.matcher.proofs.first_failure.unify.Tie as tie
 
@@ -73,7 +73,13 @@ returns-2 c =
     (omega (arith, c .before .before .before .before .if2 .taken, length-pairsOf-over (p .args .list .now))) (c .before .before .clear162 .ensures) _ refl
 
 count-joins-requires : tie.Need-count-joins-requires
-count-joins-requires c κs = search needs
+count-joins-requires c κs =
+    let p : tie.Start = search needs in
+    let u : tie.After-join-until-clash = search needs in (
+      search needs,
+      search needs,
+      row-names-nodes (standing-after (p .pre .0) (u .join-until-clash .ensures .lent)) (u .join-until-clash .ensures .inside) (u .join-until-clash .ensures .partitioned),
+    )
 
 same-length-5 : tie.Need-same-length-5
 same-length-5 c = search needs
