@@ -66,7 +66,8 @@ fn meet_ordered(
     }
 }
 
-// Two different roots meet: the earlier in the naming order is to be the name.
+// Two different roots meet: the earlier in the naming order is to be the name. Both ways about end in
+// one call, so that it is inlined.
 fn meet_roots(
     table: &[u32],
     class: &mut [u16],

@@ -8,7 +8,8 @@ ghost use Rattle.graphs.specs.Partition.{joins};
 ghost use Rattle.table.specs.Table.{graphOf};
 ghost use Rattle.classes.specs.Counting.{NamesNodes};
 
-// Each node becomes its own class; the other entries in use become 0.
+// Each node becomes its own class; the other entries in use become 0. A word is read by the counter
+// itself and not by a 16-bit address, which lets the compiler take several words at a time.
 pub fn apart(table: &[u32], class: &mut [u16])
     requires { ⌜ (length (now table) ≤ length (now class)) × (length (now table) ≤ 4096) ⌝ }
     ensures { λ _. ⌜ now (class .exit) ≡ apartIn (graphOf (now (table .entry))) ++ drop (length (now (table .entry))) (now (class .entry)) ⌝ }

@@ -1,5 +1,5 @@
-// A table of words as a term graph. A table is read through these leaves alone: whether an address
-// is a node, what stands at it, and which nodes are its children.
+// A table of words as a term graph. A table is read through these leaves alone: whether a word, or the
+// word at an address, is a node, what stands at it, and which nodes are its children.
 //
 // Those that go into a block require that each block ends inside the table, which a checked table
 // gives.
