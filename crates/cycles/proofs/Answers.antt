@@ -4,31 +4,36 @@ use mathlib.Core.Path.{_≡_, sym, ap, _∙_, subst}
 use mathlib.Core.Bool.{true, false}
 use mathlib.Core.List.{List}
 use Prim.Native.Nat.{ℕ, zero, suc, _+_, _-_, _*_, _≤_, _<_}
-use native.Mathlib.Decide.{ℕ-discrete, decLe}
+use native.Mathlib.Decide.{ℕ-discrete}
 use native.Mathlib.Omega.{arith}
 use lib.ListN.{length}
 use Rattle.graphs.specs.Graph.{Steps, one, more}
 use Rattle.graphs.proofs.Finite.{steps-snoc}
 use Rattle.cycles.specs.Net.{Net, Way, Returns}
-use Rattle.cycles.specs.Marks.{mark, onPath, Safe, safe, Search}
+use Rattle.cycles.specs.Marks.{mark, finishedMark, onPath, Safe, safe, Search, Follows}
 use Rattle.cycles.proofs.Totals.{news-all}
 use Rattle.cycles.proofs.Moves.{finished-safe}
 
 -- ---- a cycle
 
 module _ {N : Net} {w : List ℕ} {depth : ℕ} (S : Search N w depth) where
+  link : (k : ℕ) → k + 1 < depth → Way N (onPath N w k) (onPath N w (k + 1))
+  link k h =
+      let follows : Follows N w (onPath N w k) (onPath N w (k + 1)) = S .linked k h in
+      (mark w (onPath N w k) - 1, follows .more, follows .leads)
+
   -- a number on the path reaches those after it
   down : (k far : ℕ) → k + far + 1 < depth → Steps (Way N) (onPath N w k) (onPath N w (k + far + 1))
-  down k zero h = subst (λ (j : ℕ). Steps (Way N) (onPath N w k) (onPath N w j)) (omega arith) (one (S .linked k (omega arith)))
+  down k zero h = subst (λ (j : ℕ). Steps (Way N) (onPath N w k) (onPath N w j)) (omega arith) (one (link k (omega arith)))
   down k (suc far) h =
       subst (λ (j : ℕ). Steps (Way N) (onPath N w k) (onPath N w j)) (omega arith)
-      (steps-snoc (down k far (omega arith)) (S .linked (k + far + 1) (omega arith)))
+      (steps-snoc (down k far (omega arith)) (link (k + far + 1) (omega arith)))
 
   -- A way from the end of the path to a number that is begun and not finished closes a cycle.
   pub closed : (x y : ℕ) → 0 < depth → onPath N w (depth - 1) ≡ x → Way N x y → y < N .size
-      → (mark w y ≡ 0 → ⊥) → (mark w y ≡ N .count y + 2 → ⊥) → Returns true N
+      → (mark w y ≡ 0 → ⊥) → (mark w y ≡ finishedMark → ⊥) → Returns true N
   closed x y some end way inside begun unfinished =
-      (y, go (S .whole y inside (omega arith) (omega (arith, S .bounded y inside))))
+      (y, go (S .whole y inside (omega arith) unfinished))
     where
       go : (k : ℕ) × (k < depth) × (onPath N w k ≡ y) → Steps (Way N) y y
       go p = at-end (ℕ-discrete (p .0) (depth - 1))
@@ -52,12 +57,12 @@ safe-no-return {N} {x} (safe ends) (one way) = safe-no-return (ends x way) (one 
 safe-no-return {N} {x} (safe ends) (more {y = y} way rest) = safe-no-return (ends y way) (steps-snoc rest way)
 
 -- with all marks at 0 the search can start
-pub start : (N : Net) (w : List ℕ) → 2 * N .size ≤ length w → ((x : ℕ) → x < N .size → mark w x ≡ 0) → Search N w 0
-start N w room zeros =
+pub start : (N : Net) (w : List ℕ) → 2 * N .size ≤ length w → ((x : ℕ) → N .count x ≤ 255) → ((x : ℕ) → x < N .size → mark w x ≡ 0) → Search N w 0
+start N w room few-ways zeros =
     record {
       room = room;
+      few-ways = few-ways;
       few = omega (arith, news-all w (N .size));
-      bounded = λ x h. omega (arith, zeros x h);
       seen = λ x i h j k. absurd (omega (arith, zeros x h));
       inside = λ k h. absurd (omega arith);
       begun = λ k h. absurd (omega arith);
@@ -73,11 +78,11 @@ no-ways-safe N x none = safe {x = x} (λ y way. absurd (omega (arith, way .1)))
 
 -- Where the path is empty, what is begun is finished.
 pub begun-safe : {N : Net} {w : List ℕ} → Search N w 0 → (x : ℕ) → x < N .size → 0 < mark w x → Safe N x
-begun-safe {N} {w} S x h b = go (decLe (mark w x) (N .count x + 1))
+begun-safe {N} {w} S x h b = go (ℕ-discrete (mark w x) finishedMark)
   where
-    go : Dec (mark w x ≤ N .count x + 1) → Safe N x
-    go (yes u) = absurd (let p : (k : ℕ) × (k < 0) × (onPath N w k ≡ x) = S .whole x h b u in omega (arith, p .1))
-    go (no u) = finished-safe S x h (omega (arith, S .bounded x h))
+    go : Dec (mark w x ≡ finishedMark) → Safe N x
+    go (yes e) = finished-safe S x h e
+    go (no u) = absurd (let p : (k : ℕ) × (k < 0) × (onPath N w k ≡ x) = S .whole x h b u in omega (arith, p .1))
 
 -- Where every walk ends from each number to which a way leads, no number reaches itself.
 pub none : {N : Net} → ((x y : ℕ) → Way N x y → Safe N y) → Returns false N

@@ -4,6 +4,6 @@ mod Stores
 mod Moves
 mod Answers
 mod Passing
-mod Looks
+mod Turns
 mod Roots
 pub mod Agree

@@ -6,27 +6,25 @@ use Prim.Native.Nat.{ℕ, _+_, _-_, _≤_, _<_}
 use native.Mathlib.Decide.{ℕ-discrete, decLt}
 use native.Mathlib.Omega.{arith}
 use lib.ListN.{set}
-use Rattle.cycles.specs.Net.{Net, Way}
-use Rattle.cycles.specs.Marks.{mark, onPath, left, Safe, safe, Search, Grown, Moved}
-use Rattle.cycles.proofs.Totals.{total-part}
+use Rattle.cycles.specs.Net.{Net}
+use Rattle.cycles.specs.Marks.{mark, finishedMark, onPath, Safe, safe, Follows, Search, Grown}
+use Rattle.cycles.proofs.Totals.{left, total-part}
 use Rattle.cycles.proofs.Stores.{Raised, raised-mark, raised-push, pushed, raised-grown, raised-at-most, raised-less, raised-begun, raised-new}
 
-way-at : (N : Net) {x x′ y y′ : ℕ} → x′ ≡ x → y′ ≡ y → Way N x y → Way N x′ y′
-way-at N {x} {x′} {y} {y′} p q way =
-    subst (λ (z : ℕ). Way N z y′) (sym p) (subst (λ (z : ℕ). Way N x z) (sym q) way)
+-- the same mark and the same ends
+follows-at : {N : Net} {w w′ : List ℕ} {x x′ y y′ : ℕ} → mark w′ x ≡ mark w x → x′ ≡ x → y′ ≡ y → Follows N w x y → Follows N w′ x′ y′
+follows-at {N} {w} {w′} {x} {x′} {y} {y′} m p q follows =
+    subst (λ (z : ℕ). Follows N w′ z y′) (sym p)
+    (record {
+      more = omega (arith, follows .more);
+      leads = ap (λ (k : ℕ). N .next x (k - 1)) m ∙ follows .leads ∙ sym q;
+    })
 
 -- What a raised mark leaves of the path up to `depth`, if the raised number is not on it, or stays unfinished.
 module _ {N : Net} {before depth x m : ℕ} {w w′ : List ℕ} (S : Search N w before) (within : depth ≤ before) (R : Raised N before x m w w′) where
   marks-on-path : (k : ℕ) → k < depth → (onPath N w k ≡ x → ⊥) → mark w′ (onPath N w′ k) ≡ mark w (onPath N w k)
   marks-on-path k h other =
       ap (mark w′) (R .path k (omega arith)) ∙ R .others (onPath N w k) (S .inside k (omega arith)) other
-
-  bounded′ : m ≤ N .count x + 2 → (z : ℕ) → z < N .size → mark w′ z ≤ N .count z + 2
-  bounded′ h z i = go (ℕ-discrete z x)
-    where
-      go : Dec (z ≡ x) → mark w′ z ≤ N .count z + 2
-      go (yes e) = omega (arith, R .new, ap (mark w′) e, ap (N .count) e)
-      go (no e) = omega (arith, R .others z i e, S .bounded z i)
 
   seen′ : ((i : ℕ) → i < N .count x → mark w x ≤ i + 1 → i + 1 < m → Safe N (N .next x i))
       → (z i : ℕ) → z < N .size → i < N .count z → i + 1 < mark w′ z → Safe N (N .next z i)
@@ -48,11 +46,18 @@ module _ {N : Net} {before depth x m : ℕ} {w w′ : List ℕ} (S : Search N w 
   begun′ : (k : ℕ) → k < depth → 0 < mark w′ (onPath N w′ k)
   begun′ k h = omega (arith, ap (mark w′) (R .path k (omega arith)), raised-grown R .marks (onPath N w k) (S .inside k (omega arith)), S .begun k (omega arith))
 
-  linked′ : (k : ℕ) → k + 1 < depth → Way N (onPath N w′ k) (onPath N w′ (k + 1))
-  linked′ k h = way-at N (R .path k (omega arith)) (R .path (k + 1) (omega arith)) (S .linked k (omega arith))
+  linked′ : (k : ℕ) → k + 1 < depth → (onPath N w k ≡ x → ⊥) → Follows N w′ (onPath N w′ k) (onPath N w′ (k + 1))
+  linked′ k h other =
+      follows-at (R .others (onPath N w k) (S .inside k (omega arith)) other) (R .path k (omega arith)) (R .path (k + 1) (omega arith)) (S .linked k (omega arith))
 
   distinct′ : (j k : ℕ) → j < k → k < depth → onPath N w′ j ≡ onPath N w′ k → ⊥
   distinct′ j k h i e = S .distinct j k h (omega arith) (sym (R .path j (omega arith)) ∙ e ∙ R .path k (omega arith))
+
+-- The search went on and has `depth` numbers on the path.
+pub record Moved (N : Net) (before after : List ℕ) (depth : ℕ) : Type 0 where
+  pub search : Search N after depth
+  pub grown : Grown N before after
+  pub less : left N after < left N before
 
 -- Ways were passed over: the path is as it was, and marks can be raised by no more than before.
 pub record Advanced (N : Net) (before after : List ℕ) (depth : ℕ) : Type 0 where
@@ -61,25 +66,25 @@ pub record Advanced (N : Net) (before after : List ℕ) (depth : ℕ) : Type 0 w
   pub at-most : left N after ≤ left N before
 
 -- From a finished number every walk ends.
-pub finished-safe : {N : Net} {w : List ℕ} {depth : ℕ} → Search N w depth → (x : ℕ) → x < N .size → mark w x ≡ N .count x + 2 → Safe N x
+pub finished-safe : {N : Net} {w : List ℕ} {depth : ℕ} → Search N w depth → (x : ℕ) → x < N .size → mark w x ≡ finishedMark → Safe N x
 finished-safe {N} {w} S x h m =
-    safe (λ y way. subst (λ (z : ℕ). Safe N z) (way .2) (S .seen x (way .0) h (way .1) (omega (arith, way .1))))
+    safe (λ y way. subst (λ (z : ℕ). Safe N z) (way .2) (S .seen x (way .0) h (way .1) (omega (arith, way .1, S .few-ways x))))
 
 module _ {N : Net} {w : List ℕ} {depth : ℕ} (S : Search N w depth) where
   -- The number at the end of the path has passed over all its ways: it is finished, and leaves the path.
   pub finish : (x : ℕ) → 0 < depth → onPath N w (depth - 1) ≡ x
-      → ((i : ℕ) → i < N .count x → mark w x ≤ i + 1 → Safe N (N .next x i)) → Moved N w (set w x (N .count x + 2)) (depth - 1)
+      → ((i : ℕ) → i < N .count x → mark w x ≤ i + 1 → Safe N (N .next x i)) → Moved N w (set w x finishedMark) (depth - 1)
   finish x some end all =
       record {
         search = record {
           room = omega (arith, S .room, R .long);
+          few-ways = S .few-ways;
           few = omega (arith, S .few, raised-begun R begun);
-          bounded = bounded′ S within R (omega arith);
           seen = seen′ S within R (λ i h old new. all i h old);
           inside = inside′ S within R;
           begun = begun′ S within R;
-          unfinished = λ k h. omega (arith, marks-on-path S within R k h (other k h), S .unfinished k (omega arith), ap (N .count) (R .path k (omega arith)));
-          linked = linked′ S within R;
+          unfinished = λ k h. omega (arith, marks-on-path S within R k h (other k h), S .unfinished k (omega arith));
+          linked = λ k h. linked′ S within R k h (other k (omega arith));
           distinct = distinct′ S within R;
           whole = λ z h b u. whole′ z h b u (ℕ-discrete z x);
         };
@@ -88,7 +93,7 @@ module _ {N : Net} {w : List ℕ} {depth : ℕ} (S : Search N w depth) where
       }
     where
       w′ : List ℕ
-      w′ = set w x (N .count x + 2)
+      w′ = set w x finishedMark
 
       within : depth - 1 ≤ depth
       within = omega arith
@@ -99,19 +104,19 @@ module _ {N : Net} {w : List ℕ} {depth : ℕ} (S : Search N w depth) where
       begun : 0 < mark w x
       begun = omega (arith, S .begun (depth - 1) (omega arith), ap (mark w) end)
 
-      unfinished : mark w x ≤ N .count x + 1
-      unfinished = omega (arith, S .unfinished (depth - 1) (omega arith), ap (mark w) end, ap (N .count) end)
+      unfinished : mark w x < finishedMark
+      unfinished = omega (arith, S .unfinished (depth - 1) (omega arith), ap (mark w) end)
 
-      R : Raised N depth x (N .count x + 2) w w′
-      R = raised-mark N depth x w inside (S .room) (N .count x + 2) (omega (arith, unfinished))
+      R : Raised N depth x finishedMark w w′
+      R = raised-mark N depth x w inside (S .room) finishedMark (omega (arith, unfinished))
 
       other : (k : ℕ) → k < depth - 1 → onPath N w k ≡ x → ⊥
       other k h e = S .distinct k (depth - 1) h (omega arith) (e ∙ sym end)
 
-      whole′ : (z : ℕ) → z < N .size → 0 < mark w′ z → mark w′ z ≤ N .count z + 1 → Dec (z ≡ x)
+      whole′ : (z : ℕ) → z < N .size → 0 < mark w′ z → (mark w′ z ≡ finishedMark → ⊥) → Dec (z ≡ x)
           → (k : ℕ) × (k < depth - 1) × (onPath N w′ k ≡ z)
-      whole′ z h b u (yes e) = absurd (omega (arith, R .new, ap (mark w′) e, ap (N .count) e))
-      whole′ z h b u (no e) = shorter (S .whole z h (omega (arith, R .others z h e)) (omega (arith, R .others z h e)))
+      whole′ z h b u (yes e) = absurd (u (ap (mark w′) e ∙ R .new))
+      whole′ z h b u (no e) = shorter (S .whole z h (omega (arith, R .others z h e)) (λ f. u (R .others z h e ∙ f)))
         where
           shorter : (k : ℕ) × (k < depth) × (onPath N w k ≡ z) → (k : ℕ) × (k < depth - 1) × (onPath N w′ k ≡ z)
           shorter p = (p .0, before, R .path (p .0) (p .1) ∙ p .2)
@@ -133,13 +138,13 @@ module _ {N : Net} {w : List ℕ} {depth : ℕ} (S : Search N w depth) where
       record {
         search = record {
           room = omega (arith, S .room, R .long);
+          few-ways = S .few-ways;
           few = omega (arith, S .few, raised-begun R begun);
-          bounded = bounded′ S within R (omega arith);
           seen = seen′ S within R (λ k h before new. over k before (omega arith));
           inside = inside′ S within R;
           begun = begun′ S within R;
           unfinished = λ k h. unfinished′ k h (ℕ-discrete (onPath N w k) x);
-          linked = linked′ S within R;
+          linked = λ k h. linked′ S within R k h (other k h);
           distinct = distinct′ S within R;
           whole = λ z h b u. whole′ z h b u (ℕ-discrete z x);
         };
@@ -162,34 +167,37 @@ module _ {N : Net} {w : List ℕ} {depth : ℕ} (S : Search N w depth) where
       R : Raised N depth x (i + 1) w w′
       R = raised-mark N depth x w inside (S .room) (i + 1) old
 
-      unfinished′ : (k : ℕ) → k < depth → Dec (onPath N w k ≡ x) → mark w′ (onPath N w′ k) ≤ N .count (onPath N w′ k) + 1
+      other : (k : ℕ) → k + 1 < depth → onPath N w k ≡ x → ⊥
+      other k h e = S .distinct k (depth - 1) (omega arith) (omega arith) (e ∙ sym end)
+
+      unfinished′ : (k : ℕ) → k < depth → Dec (onPath N w k ≡ x) → mark w′ (onPath N w′ k) < finishedMark
       unfinished′ k h (yes e) =
           let here : onPath N w′ k ≡ x = R .path k h ∙ e in
-          omega (arith, R .new, ap (mark w′) here, ap (N .count) here)
+          omega (arith, R .new, ap (mark w′) here, S .few-ways x)
       unfinished′ k h (no e) =
-          omega (arith, marks-on-path S within R k h e, S .unfinished k h, ap (N .count) (R .path k h))
+          omega (arith, marks-on-path S within R k h e, S .unfinished k h)
 
       still : {z : ℕ} → (k : ℕ) × (k < depth) × (onPath N w k ≡ z) → (k : ℕ) × (k < depth) × (onPath N w′ k ≡ z)
       still p = (p .0, p .1, R .path (p .0) (p .1) ∙ p .2)
 
-      whole′ : (z : ℕ) → z < N .size → 0 < mark w′ z → mark w′ z ≤ N .count z + 1 → Dec (z ≡ x)
+      whole′ : (z : ℕ) → z < N .size → 0 < mark w′ z → (mark w′ z ≡ finishedMark → ⊥) → Dec (z ≡ x)
           → (k : ℕ) × (k < depth) × (onPath N w′ k ≡ z)
       whole′ z h b u (yes e) = still (depth - 1, omega arith, end ∙ sym e)
-      whole′ z h b u (no e) = still (S .whole z h (omega (arith, R .others z h e)) (omega (arith, R .others z h e)))
+      whole′ z h b u (no e) = still (S .whole z h (omega (arith, R .others z h e)) (λ f. u (R .others z h e ∙ f)))
 
   -- the path has room for a new number
   pub path-room : (y : ℕ) → y < N .size → mark w y ≡ 0 → depth < N .size
   path-room y inside fresh = omega (arith, total-part (λ x m. 1 - m) w y (N .size) inside, S .few)
 
   -- A new number, to which the end of the path leads if there is one, is begun.
-  pub begin : (y : ℕ) → y < N .size → mark w y ≡ 0 → (0 < depth → Way N (onPath N w (depth - 1)) y)
+  pub begin : (y : ℕ) → y < N .size → mark w y ≡ 0 → (0 < depth → Follows N w (onPath N w (depth - 1)) y)
       → Moved N w (set (set w y 1) (N .size + depth) y) (depth + 1)
-  begin y inside fresh way =
+  begin y inside fresh follows =
       record {
         search = record {
           room = omega (arith, S .room, R .long);
+          few-ways = S .few-ways;
           few = omega (arith, S .few, raised-new R fresh (omega arith));
-          bounded = bounded′ S within R (omega arith);
           seen = seen′ S within R (λ i h old new. absurd (omega arith));
           inside = λ k h. inside″ k (decLt k depth) h;
           begun = λ k h. begun″ k (decLt k depth) h;
@@ -228,24 +236,25 @@ module _ {N : Net} {w : List ℕ} {depth : ℕ} (S : Search N w depth) where
       begun″ k (yes l) h = begun′ S within R k l
       begun″ k (no l) h = omega (arith, ap (mark w′) (at-last k l h), R .new)
 
-      unfinished″ : (k : ℕ) → Dec (k < depth) → k < depth + 1 → mark w′ (onPath N w′ k) ≤ N .count (onPath N w′ k) + 1
-      unfinished″ k (yes l) h =
-          omega (arith, marks-on-path S within R k l (other k l), S .unfinished k l, ap (N .count) (R .path k l))
+      unfinished″ : (k : ℕ) → Dec (k < depth) → k < depth + 1 → mark w′ (onPath N w′ k) < finishedMark
+      unfinished″ k (yes l) h = omega (arith, marks-on-path S within R k l (other k l), S .unfinished k l)
       unfinished″ k (no l) h = omega (arith, ap (mark w′) (at-last k l h), R .new)
 
-      linked″ : (k : ℕ) → Dec (k + 1 < depth) → k + 1 < depth + 1 → Way N (onPath N w′ k) (onPath N w′ (k + 1))
-      linked″ k (yes l) h = linked′ S within R k l
+      linked″ : (k : ℕ) → Dec (k + 1 < depth) → k + 1 < depth + 1 → Follows N w′ (onPath N w′ k) (onPath N w′ (k + 1))
+      linked″ k (yes l) h = linked′ S within R k l (other k (omega arith))
       linked″ k (no l) h =
-          way-at N (R .path k (omega arith) ∙ ap (onPath N w) (omega arith)) (at-last (k + 1) l h) (way (omega arith))
+          let end : onPath N w k ≡ onPath N w (depth - 1) = ap (onPath N w) (omega arith) in
+          follows-at (R .others (onPath N w (depth - 1)) (S .inside (depth - 1) (omega arith)) (other (depth - 1) (omega arith)))
+          (R .path k (omega arith) ∙ end) (at-last (k + 1) l h) (follows (omega arith))
 
       distinct″ : (j k : ℕ) → j < k → k < depth + 1 → onPath N w′ j ≡ onPath N w′ k → Dec (k < depth) → ⊥
       distinct″ j k h i e (yes l) = distinct′ S within R j k h l e
       distinct″ j k h i e (no l) = other j (omega arith) (sym (R .path j (omega arith)) ∙ e ∙ at-last k l i)
 
-      whole″ : (z : ℕ) → z < N .size → 0 < mark w′ z → mark w′ z ≤ N .count z + 1 → Dec (z ≡ y)
+      whole″ : (z : ℕ) → z < N .size → 0 < mark w′ z → (mark w′ z ≡ finishedMark → ⊥) → Dec (z ≡ y)
           → (k : ℕ) × (k < depth + 1) × (onPath N w′ k ≡ z)
       whole″ z h b u (yes e) = (depth, omega arith, last ∙ sym e)
-      whole″ z h b u (no e) = longer (S .whole z h (omega (arith, R .others z h e)) (omega (arith, R .others z h e)))
+      whole″ z h b u (no e) = longer (S .whole z h (omega (arith, R .others z h e)) (λ f. u (R .others z h e ∙ f)))
         where
           longer : (k : ℕ) × (k < depth) × (onPath N w k ≡ z) → (k : ℕ) × (k < depth + 1) × (onPath N w′ k ≡ z)
           longer p = (p .0, omega (arith, p .1), R .path (p .0) (p .1) ∙ p .2)

@@ -1,6 +1,6 @@
--- Ways passed over: the marks of a search are enough to do it (`sure`), what the test of a number says (`open-read`), and
--- the turns of the loop (`over-none`, `over-next`, `stops-here`, `over-all`). Assumes nothing.
-use mathlib.Core.Path.{_≡_, sym, subst}
+-- Ways passed over: the marks of a search are enough to do it (`sure`), what the tests of a number say (`open-read`,
+-- `no-function-no-ways`), and the turns of the loop (`over-none`, `over-next`, `stops-here`, `over-all`). Assumes nothing.
+use mathlib.Core.Path.{_≡_, sym, ap, _∙_, subst}
 use mathlib.Core.Bool.{Bool, true, false, not}
 use mathlib.Core.List.{List}
 use mathlib.Core.Logic.{inr, ⊎-elim}
@@ -8,28 +8,28 @@ use Prim.Native.Nat.{ℕ, _+_, _≤_, _<_}
 use native.Mathlib.Decide.{ℕ-discrete}
 use native.Mathlib.Omega.{arith}
 use lib.Dec.{eqb}
-use borrow.Author.Tests.{eq-eqb, ne-eqb}
-use Rattle.table.specs.Table.{degree}
+use borrow.Author.Tests.{not-true, eq-eqb, ne-eqb}
+use Rattle.table.specs.Table.{choose, kindAt, contentAt, functionKind, degree}
 use Rattle.cycles.specs.Net.{Net, netOf}
-use Rattle.cycles.specs.Marks.{Ready, mark, Safe, Search, Open, Sure, Over, Passed}
+use Rattle.cycles.specs.Marks.{Ready, mark, finishedMark, Safe, Search, Open, Sure, Over, Passed}
 use Rattle.cycles.proofs.Moves.{finished-safe}
 use Rattle.cycles.proofs.Answers.{no-ways-safe}
 
 pub sure : {N : Net} {w : List ℕ} {depth : ℕ} → Search N w depth → Sure N w
 sure S = record { room = omega (arith, S .room); finished = finished-safe S }
 
--- with some ways, the mark tells whether a number is open
-open-by-mark : (count m : ℕ) → 0 < count → Open count m (not (eqb m (count + 2)))
-open-by-mark count m some = go (ℕ-discrete m (count + 2))
+-- the mark tells whether a number that can have ways is open
+pub open-read : (count : ℕ) {m r : ℕ} → r ≡ m → Open count m (not (eqb r finishedMark))
+open-read count {m} {r} read = go (ℕ-discrete r finishedMark)
   where
-    go : Dec (m ≡ count + 2) → Open count m (not (eqb m (count + 2)))
-    go (yes e) = subst (λ (b : Bool). Open count m (not b)) (sym (eq-eqb m (count + 2) e)) (inr e)
-    go (no e) = subst (λ (b : Bool). Open count m (not b)) (sym (ne-eqb m (count + 2) e)) (some, e)
+    go : Dec (r ≡ finishedMark) → Open count m (not (eqb r finishedMark))
+    go (yes e) = subst (λ (b : Bool). Open count m (not b)) (sym (eq-eqb r finishedMark e)) (inr (sym read ∙ e))
+    go (no e) = subst (λ (b : Bool). Open count m (not b)) (sym (ne-eqb r finishedMark e)) (λ f. e (read ∙ f))
 
-pub open-read : {count m k r : ℕ} → k ≡ count → r ≡ m → (k ≡ 0 → ⊥) → Open count m (not (eqb r (k + 2)))
-open-read {count} {m} {k} {r} ways read some =
-    subst (λ (z : ℕ). Open count m (not (eqb z (k + 2)))) (sym read)
-    (subst (λ (z : ℕ). Open count m (not (eqb m (z + 2)))) (sym ways) (open-by-mark count m (omega arith)))
+-- what is no function has no ways
+pub no-function-no-ways : (t : List ℕ) (x : ℕ) {function : Bool} → function ≡ functionKind (kindAt t x) → not function ≡ true → degree t x ≡ 0
+unfolding degree choose
+no-function-no-ways t x {function} read none = ap (λ (b : Bool). choose b (contentAt t (x + 1)) 0) (sym read ∙ not-true function none)
 
 not-open-safe : {N : Net} {w : List ℕ} → Sure N w → (y : ℕ) → y < N .size → Open (N .count y) (mark w y) false → Safe N y
 not-open-safe {N} known y inside = ⊎-elim (no-ways-safe N y) (known .finished y inside)

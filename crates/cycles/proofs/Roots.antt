@@ -1,6 +1,5 @@
--- The search from one root and from every name, put together from looks: a look's answer by its two cases (`looked-cycle`,
--- `looked-path`), the root on the path (`rooted`, `root-begun`) and off it again (`ended`), what a visit says by its answer
--- (`visited`, `passed-over`), the names visited so far (`Swept`, `visit-found`, `visit-passed`, `swept-all`), and the clearings
+-- The search from one root and from every name: the root on the path (`rooted`) and off it again (`ended`), what a visit says by
+-- its answer (`visited`, `passed-over`), the names visited so far (`Swept`, `visit-found`, `visit-passed`, `swept-all`), and the clearings
 -- before and after (`ready`, `started`, `searched`). Assumes nothing.
 use mathlib.Core.Path.{_≡_, sym, ap, _∙_, subst}
 use mathlib.Core.Bool.{Bool, true, false}
@@ -11,34 +10,25 @@ use native.Mathlib.Omega.{arith}
 use lib.ListN.{length, getD, set, drop, replicate}
 use Rattle.rows.proofs.Laws.{behind-cleared, cleared-zero}
 use Rattle.graphs.specs.Partition.{entry}
-use Rattle.cycles.specs.declared.path.Turn.{Turn}
 use Rattle.cycles.specs.Net.{Net, Way, netOf, Searchable, Searched}
-use Rattle.cycles.specs.Marks.{Ready, mark, onPath, Safe, Search, Grown, Moved, Stopped, Ended, Looked, Rooted, Visited, Told}
-use Rattle.cycles.proofs.Stores.{pushed, grown-none, grown-join}
-use Rattle.cycles.proofs.Moves.{begin, path-room}
+use Rattle.cycles.specs.Marks.{Ready, mark, Safe, Search, Grown, Stopped, Ended, Rooted, Visited, Told}
+use Rattle.cycles.proofs.Stores.{grown-none, grown-join}
 use Rattle.cycles.proofs.Answers.{start, none, begun-safe}
+use Rattle.cycles.proofs.Turns.{Turned, started-at, end-begun}
 
 -- ---- one root
-
-module _ (N : Net) {before after : List ℕ} where
-  pub looked-cycle : {turn : Turn} → Looked N before after turn → turn ≡ Turn.Cycle → Stopped N before after
-  looked-cycle looked e = subst (Looked N before after) e looked
-
-  pub looked-path : {turn : Turn} {depth : ℕ} → Looked N before after turn → turn ≡ Turn.Path depth → Moved N before after depth
-  looked-path looked e = subst (Looked N before after) e looked
 
 pub stopped-later : {N : Net} {u v w : List ℕ} → Grown N u v → Stopped N v w → Stopped N u w
 stopped-later g s = record { cycle = s .cycle; behind = s .behind ∙ g .behind }
 
 module _ {N : Net} {w w′ : List ℕ} {root : ℕ} (S : Search N w 0) (inside : root < N .size) (fresh : mark w root ≡ 0)
     (stored : w′ ≡ set (set w root 1) (N .size + 0) root) where
-  pub rooted : Moved N w w′ 1
-  rooted = subst (λ (v : List ℕ). Moved N w v 1) (sym stored) (begin S root inside fresh (λ some. absurd (omega arith)))
+  pub rooted : Turned N w w′ 1 root 0
+  rooted =
+      subst (λ (v : List ℕ). Turned N w v 1 root 0) (sym stored) (started-at S root inside fresh (λ some. absurd (omega arith)))
 
-  pub root-begun : 0 < mark w′ root
-  root-begun =
-      let end : onPath N w′ 0 ≡ root = ap (λ (v : List ℕ). onPath N v 0) stored ∙ pushed N 0 root w inside (S .room) (path-room S root inside fresh) in
-      omega (arith, rooted .search .begun 0 (omega arith), ap (mark w′) end)
+  root-begun : 0 < mark w′ root
+  root-begun = end-begun (rooted .going) (omega arith)
 
   -- the path is empty again
   pub ended : {w″ : List ℕ} {depth : ℕ} → Search N w″ depth → Grown N w′ w″ → depth ≤ 0 → Ended N w w″ (Safe N root)
@@ -130,7 +120,7 @@ module _ {t row : List ℕ} (work : List ℕ) (asked : Searchable t row (length 
   -- after the first clearing
   pub started : {work′ : List ℕ} → work′ ≡ replicate (length t) 0 ++ drop (length t) work → length work′ ≡ length work → Search (netOf t row) work′ 0
   started {work′} cleared long =
-      start (netOf t row) work′ (omega (arith, asked .work-enough))
+      start (netOf t row) work′ (omega (arith, asked .work-enough)) (asked .counts)
       (λ x h.
       ap (λ (v : List ℕ). getD v x 0) cleared ∙ cleared-zero work (length t) x h)
 

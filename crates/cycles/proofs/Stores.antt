@@ -8,8 +8,8 @@ use native.Mathlib.Omega.{arith}
 use lib.ListN.{length, set, drop, length-set}
 use lib.Seq.{getD-set-same, getD-set-other, drop-set-lt}
 use Rattle.cycles.specs.Net.{Net}
-use Rattle.cycles.specs.Marks.{mark, onPath, left, news, Grown}
-use Rattle.cycles.proofs.Totals.{total-one}
+use Rattle.cycles.specs.Marks.{mark, finishedMark, onPath, news, Grown}
+use Rattle.cycles.proofs.Totals.{left, total-one}
 
 -- The mark of x is m and was at most that. The other marks, the path below `depth` and what is behind it are as they were.
 pub record Raised (N : Net) (depth x m : ℕ) (before after : List ℕ) : Type 0 where
@@ -74,13 +74,13 @@ module _ {N : Net} {depth x m : ℕ} {w w′ : List ℕ} (R : Raised N depth x m
       go z h (yes e) = omega (arith, R .new, R .old, ap (mark w) e, ap (mark w′) e)
       go z h (no e) = omega (arith, R .others z h e)
 
-  fallen : left N w′ + (N .count x + 2 - mark w x) ≡ left N w + (N .count x + 2 - mark w′ x)
-  fallen = total-one (λ y k. N .count y + 2 - k) w w′ x (N .size) (R .inside) (R .others)
+  fallen : left N w′ + (finishedMark - mark w x) ≡ left N w + (finishedMark - mark w′ x)
+  fallen = total-one (λ y k. finishedMark - k) w w′ x (N .size) (R .inside) (R .others)
 
   pub raised-at-most : left N w′ ≤ left N w
   raised-at-most = omega (arith, fallen, R .new, R .old)
 
-  pub raised-less : mark w x < m → mark w x < N .count x + 2 → left N w′ < left N w
+  pub raised-less : mark w x < m → mark w x < finishedMark → left N w′ < left N w
   raised-less h i = omega (arith, fallen, R .new)
 
   pub raised-begun : 0 < mark w x → news N w′ ≡ news N w

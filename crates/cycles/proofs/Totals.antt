@@ -1,11 +1,16 @@
 -- Sums over marks. A store changes a sum by what it changes at its own place (`total-one`); a sum has each of its parts
--- (`total-part`), and the number of new marks is at most that of all (`news-all`). Assumes nothing.
+-- (`total-part`), and the number of new marks is at most that of all (`news-all`). `left` measures the search. Assumes nothing.
 use mathlib.Core.Path.{_≡_, refl, ap}
 use mathlib.Core.List.{List}
 use Prim.Native.Nat.{ℕ, zero, suc, _+_, _-_, _≤_, _<_}
 use native.Mathlib.Decide.{ℕ-discrete}
 use native.Mathlib.Omega.{arith}
-use Rattle.cycles.specs.Marks.{mark, total}
+use Rattle.cycles.specs.Net.{Net}
+use Rattle.cycles.specs.Marks.{mark, finishedMark, total}
+
+-- by how much marks can still be raised
+abbrev pub left : Net → List ℕ → ℕ
+left N work = total (λ x m. finishedMark - m) work (N .size)
 
 module _ (f : ℕ → ℕ → ℕ) (w w′ : List ℕ) where
   total-same : (k : ℕ) → ((z : ℕ) → z < k → mark w′ z ≡ mark w z) → total f w′ k ≡ total f w k

@@ -1,7 +1,7 @@
 -- What the steps of the search promise each other. The work row holds a mark for each number of the net, and behind the marks
 -- the path, from the root of the search down to the number in hand. A mark is 0 for a new number; 1 + the ways passed over,
--- while the number is on the path; and the count of its ways + 2 once it is finished. A number with no ways stays new. For this
--- crate alone. Assumes nothing.
+-- while the number is on the path; and 257 once it is finished, which is more than 1 + the ways of any number. What is no
+-- function stays new. For this crate alone. Assumes nothing.
 use mathlib.Core.Path.{_≡_}
 use mathlib.Core.Bool.{Bool, true, false}
 use mathlib.Core.List.{List}
@@ -10,7 +10,6 @@ use Prim.Native.Nat.{ℕ, zero, suc, _+_, _-_, _*_, _≤_, _<_}
 use lib.ListN.{length, getD, drop}
 use Rattle.graphs.specs.Partition.{entry}
 use Rattle.cycles.specs.Net.{Net, Way, Returns, Searchable}
-use Rattle.cycles.specs.declared.path.Turn.{Turn}
 
 -- What the steps ask of table and class row. Of the work row `Search` says enough.
 abbrev pub Ready : List ℕ → List ℕ → Type 0
@@ -19,6 +18,10 @@ Ready t row = Searchable t row (2 * length t)
 -- the mark of x
 abbrev pub mark : List ℕ → ℕ → ℕ
 mark work x = getD work x 0
+
+-- the mark of a finished number
+abbrev pub finishedMark : ℕ
+finishedMark = 257
 
 -- the number on the path at depth k, from 0
 abbrev pub onPath : Net → List ℕ → ℕ → ℕ
@@ -37,37 +40,32 @@ total f work (suc k) = f k (mark work k) + total f work k
 abbrev pub news : Net → List ℕ → ℕ
 news N work = total (λ x m. 1 - m) work (N .size)
 
--- by how much marks can still be raised
-abbrev pub left : Net → List ℕ → ℕ
-left N work = total (λ x m. N .count x + 2 - m) work (N .size)
+-- The first way of x that is not passed over leads to y.
+pub record Follows (N : Net) (work : List ℕ) (x y : ℕ) : Type 0 where
+  pub more : mark work x - 1 < N .count x
+  pub leads : N .next x (mark work x - 1) ≡ y
 
 -- The search with `depth` numbers on the path.
 pub record Search (N : Net) (work : List ℕ) (depth : ℕ) : Type 0 where
   pub room : 2 * N .size ≤ length work
+  pub few-ways : (x : ℕ) → N .count x ≤ 255
   -- new numbers and those on the path are different ones
   pub few : news N work + depth ≤ N .size
-  pub bounded : (x : ℕ) → x < N .size → mark work x ≤ N .count x + 2
   -- the ways passed over lead to numbers from which every walk ends
   pub seen : (x i : ℕ) → x < N .size → i < N .count x → i + 1 < mark work x → Safe N (N .next x i)
   pub inside : (k : ℕ) → k < depth → onPath N work k < N .size
   pub begun : (k : ℕ) → k < depth → 0 < mark work (onPath N work k)
-  pub unfinished : (k : ℕ) → k < depth → mark work (onPath N work k) ≤ N .count (onPath N work k) + 1
-  pub linked : (k : ℕ) → k + 1 < depth → Way N (onPath N work k) (onPath N work (k + 1))
+  pub unfinished : (k : ℕ) → k < depth → mark work (onPath N work k) < finishedMark
+  pub linked : (k : ℕ) → k + 1 < depth → Follows N work (onPath N work k) (onPath N work (k + 1))
   pub distinct : (j k : ℕ) → j < k → k < depth → onPath N work j ≡ onPath N work k → ⊥
   -- a number that is begun and not finished is on the path
-  pub whole : (x : ℕ) → x < N .size → 0 < mark work x → mark work x ≤ N .count x + 1 → (k : ℕ) × (k < depth) × (onPath N work k ≡ x)
+  pub whole : (x : ℕ) → x < N .size → 0 < mark work x → (mark work x ≡ finishedMark → ⊥) → (k : ℕ) × (k < depth) × (onPath N work k ≡ x)
 
 -- From `before` to `after` no mark fell, and nothing changed behind marks and path.
 pub record Grown (N : Net) (before after : List ℕ) : Type 0 where
   pub long : length after ≡ length before
   pub marks : (x : ℕ) → x < N .size → mark before x ≤ mark after x
   pub behind : drop (2 * N .size) after ≡ drop (2 * N .size) before
-
--- The search went on and has `depth` numbers on the path.
-pub record Moved (N : Net) (before after : List ℕ) (depth : ℕ) : Type 0 where
-  pub search : Search N after depth
-  pub grown : Grown N before after
-  pub less : left N after < left N before
 
 -- The search found a cycle.
 pub record Stopped (N : Net) (before after : List ℕ) : Type 0 where
@@ -80,20 +78,15 @@ pub record Ended (N : Net) (before after : List ℕ) (P : Type 0) : Type 0 where
   pub grown : Grown N before after
   pub holds : P
 
--- What one look does: it found a cycle, or went on.
-abbrev pub Looked : Net → List ℕ → List ℕ → Turn → Type 0
-Looked N before after Turn.Cycle = Stopped N before after
-Looked N before after (Turn.Path depth) = Moved N before after depth
-
--- Whether a number is open, by the count of its ways and its mark: it has ways, and is not finished.
+-- Whether a number is open, by the count of its ways and its mark. Where it is not, it has no ways or is finished.
 abbrev pub Open : ℕ → ℕ → Bool → Type 0
-Open count m true = (0 < count) × (m ≡ count + 2 → ⊥)
-Open count m false = (count ≡ 0) ⊎ (m ≡ count + 2)
+Open count m true = m ≡ finishedMark → ⊥
+Open count m false = (count ≡ 0) ⊎ (m ≡ finishedMark)
 
 -- What passing over ways asks of the marks: every number has one, and from a finished number every walk ends.
 pub record Sure (N : Net) (work : List ℕ) : Type 0 where
   pub room : N .size ≤ length work
-  pub finished : (x : ℕ) → x < N .size → mark work x ≡ N .count x + 2 → Safe N x
+  pub finished : (x : ℕ) → x < N .size → mark work x ≡ finishedMark → Safe N x
 
 -- The ways of x from place i up to j lead to numbers from which every walk ends.
 pub record Over (N : Net) (x i j : ℕ) : Type 0 where
@@ -105,14 +98,6 @@ pub record Over (N : Net) (x i j : ℕ) : Type 0 where
 pub record Passed (N : Net) (work : List ℕ) (x i j : ℕ) : Type 0 where
   pub over : Over N x i j
   pub stops : j < N .count x → Open (N .count (N .next x j)) (mark work (N .next x j)) true
-
--- The search has x at the end of its path, and of x's ways the one at place i is the first to be followed.
-pub record Facing (N : Net) (work : List ℕ) (depth x i : ℕ) : Type 0 where
-  pub search : Search N work depth
-  pub some : 0 < depth
-  pub end : onPath N work (depth - 1) ≡ x
-  pub passed : Passed N work x (mark work x - 1) i
-  pub more : i < N .count x
 
 -- What the search from one root does: it found a cycle, or every walk from the root ends.
 abbrev pub Rooted : Net → List ℕ → List ℕ → ℕ → Bool → Type 0

@@ -3,7 +3,7 @@ ghost use mathlib.Core.Path.{_≡_};
 ghost use Prim.Native.Nat.{_<_, _≤_};
 ghost use lib.ListN.{length, getD, set};
 ghost use Rattle.graphs.specs.Partition.{entry};
-ghost use Rattle.table.specs.Table.{degree, childOf, Laid};
+ghost use Rattle.table.specs.Table.{kindAt, functionKind, degree, childOf, Laid};
 use table::node;
 use words::numbers::Address;
 
@@ -21,6 +21,14 @@ pub fn put(row: &mut [u16], i: usize, v: usize)
     ensures { λ _. ⌜ now (row .exit) ≡ set (now (row .entry)) i v ⌝ }
 {
     row[i] = v as u16;
+}
+
+// Whether x is a function: no way leads from anything else.
+pub fn has_ways(table: &[u32], x: usize) -> bool
+    requires { ⌜ (length (now table) ≤ 4096) × (x < length (now table)) ⌝ }
+    ensures { λ r. ⌜ r ≡ functionKind (kindAt (now (table .entry)) x) ⌝ }
+{
+    node::is_function(table, Address(x as u16))
 }
 
 // How many ways lead from x.

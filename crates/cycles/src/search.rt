@@ -5,7 +5,6 @@ ghost use lib.ListN.{length};
 ghost use Rattle.cycles.specs.Net.{netOf, Searchable, Searched};
 ghost use Rattle.cycles.specs.Marks.{Ready, Search, Rooted, Visited, Told, mark};
 use crate::path;
-use crate::path::Turn;
 use crate::reads;
 
 // Whether a cycle is found from a new number. If not, every walk from it ends.
@@ -15,11 +14,28 @@ fn from_root(table: &[u32], class: &[u16], work: &mut [u16], root: usize) -> boo
 {
     path::push(work, table.len(), 0, root);
     let mut depth = 1;
+    let mut x = root; // the end of the path
+    let mut i = 0; // the place of its way to go on from
     while 0 < depth {
-        let Turn::Path(deep) = path::look(table, class, work, depth) else {
-            return true;
-        };
-        depth = deep;
+        let count = reads::ways(table, x);
+        let j = path::pass_over(table, class, work, x, i, count);
+        if j < count {
+            let y = reads::next(table, class, x, j);
+            if reads::at(work, y) != 0 {
+                return true;
+            }
+            path::follow(work, table.len(), depth, x, j, y);
+            depth += 1;
+            x = y;
+            i = 0;
+        } else {
+            path::finish(work, x);
+            depth -= 1;
+            if 0 < depth {
+                x = reads::at(work, table.len() + (depth - 1));
+                i = reads::at(work, x);
+            }
+        }
     }
     false
 }
@@ -30,7 +46,7 @@ fn visit(table: &[u32], class: &[u16], work: &mut [u16], x: usize) -> bool
     requires { ⌜ Ready (now table) (now class) × Search (netOf (now table) (now class)) (now work) 0 × (x < length (now table)) ⌝ }
     ensures { λ r. ⌜ Visited (netOf (now (table .entry)) (now (class .entry))) (now (class .entry)) (now (work .entry)) (now (work .exit)) x r ⌝ }
 {
-    if reads::ways(table, x) == 0 {
+    if !reads::has_ways(table, x) {
         return false;
     }
     if reads::at(work, x) != 0 {

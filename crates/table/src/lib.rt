@@ -1,5 +1,6 @@
 // A table of words as a term graph. A table is read through these leaves alone: whether a word, or the
-// word at an address, is a node, what stands at it, and which nodes are its children.
+// word at an address, is a node, whether it is a function, what stands at it, and which nodes are its
+// children.
 //
 // Those that go into a block require that each block ends inside the table, which a checked table
 // gives.
@@ -9,5 +10,6 @@ pub mod node;
 pub use node::child;
 pub use node::degree;
 pub use node::head;
+pub use node::is_function;
 pub use node::is_node;
 pub use node::is_node_word;

@@ -4,7 +4,7 @@ ghost use Prim.Native.Nat.{_+_, _<_, _≤_};
 ghost use lib.ListN.{length};
 ghost use Rattle.words.specs.Word.{kindOf};
 ghost use Rattle.table.specs.Heads.{top};
-ghost use Rattle.table.specs.Table.{kindAt, nodeKind, named, degree as degreeAt, childOf, Laid};
+ghost use Rattle.table.specs.Table.{kindAt, nodeKind, functionKind, named, degree as degreeAt, childOf, Laid};
 use crate::kinds;
 use words::head::Head;
 use words::numbers::Address;
@@ -26,6 +26,14 @@ pub fn is_node(table: &[u32], x: Address) -> bool
         return false;
     }
     is_node_word(table[at])
+}
+
+// Whether the word at an address is a function. What is no function has no children.
+pub fn is_function(table: &[u32], x: Address) -> bool
+    requires { ⌜ x .0 < length (now table) ⌝ }
+    ensures { λ r. ⌜ r ≡ functionKind (kindAt (now (table .entry)) (x .0)) ⌝ }
+{
+    kinds::is_function(word::kind(table[x.0 as usize]))
 }
 
 // How many children the node at an address has.

@@ -16,22 +16,16 @@ Inv-loop table class work x i count j₀ j = Over (netOf table class) x i j
 abbrev μ-loop : tie.MeasureT-loop
 μ-loop table class work x i count j₀ j = count - j
 
-ways-requires : tie.Need-ways-requires Inv-loop μ-loop
-ways-requires c κs =
-    let p : tie.Start Inv-loop μ-loop = search needs in
-    (p .pre .0 .laid, p .pre .0 .small, p .pre .2)
-
 loop-holds : tie.Need-loop-holds Inv-loop μ-loop
 loop-holds c =
     let p : tie.Start Inv-loop μ-loop = search needs in
-    over-none (p .pre .3)
+    over-none (omega (arith, p .pre .3, p .pre .4))
 
 next-requires : tie.Need-next-requires Inv-loop μ-loop
 next-requires c κs =
     let p : tie.Start Inv-loop μ-loop = search needs in
-    let w : tie.After-ways Inv-loop μ-loop = search needs in
     let o : tie.At-loop Inv-loop μ-loop = search needs in
-    let more : o .loop .j < degree (p .args .table .now) (p .args .x) = omega (arith, c .loop-test .taken, w .ways .ensures) in (
+    let more : o .loop .j < degree (p .args .table .now) (p .args .x) = omega (arith, c .loop-test .taken, p .pre .3) in (
       p .pre .0 .laid,
       p .pre .0 .small,
       more,
@@ -43,26 +37,22 @@ next-requires c κs =
 is-open-requires : tie.Need-is-open-requires Inv-loop μ-loop
 is-open-requires c κs =
     let p : tie.Start Inv-loop μ-loop = search needs in
-    let w : tie.After-ways Inv-loop μ-loop = search needs in
     let o : tie.At-loop Inv-loop μ-loop = search needs in
     let l : tie.In-loop Inv-loop μ-loop = search needs in
-    let more : o .loop .j < degree (p .args .table .now) (p .args .x) = omega (arith, l .loop-test .taken, w .ways .ensures) in (
-      p .pre .0 .laid,
+    let more : o .loop .j < degree (p .args .table .now) (p .args .x) = omega (arith, l .loop-test .taken, p .pre .3) in (
       p .pre .0 .small,
       omega (arith, p .pre .0 .name-inside (p .args .x) (o .loop .j) more, c .next .ensures),
       p .pre .1 .room,
-      p .pre .0 .counts (c .next .result),
     )
 
 returns : tie.Need-returns Inv-loop μ-loop
 returns c =
     let p : tie.Start Inv-loop μ-loop = search needs in
-    let w : tie.After-ways Inv-loop μ-loop = search needs in
     let o : tie.At-loop Inv-loop μ-loop = search needs in
     let l : tie.In-loop Inv-loop μ-loop = search needs in
     let n : tie.After-next Inv-loop μ-loop = search needs in
     let t : tie.After-is-open Inv-loop μ-loop = search needs in
-    stops-here (p .pre .0) (p .pre .1) (o .loop .inv) (omega (arith, l .loop-test .taken, w .ways .ensures)) (n .next .ensures) (t .is-open .ensures) (c .if1 .taken)
+    stops-here (p .pre .0) (p .pre .1) (o .loop .inv) (omega (arith, l .loop-test .taken, p .pre .3)) (n .next .ensures) (t .is-open .ensures) (c .if1 .taken)
 
 add-j : tie.Need-add-j Inv-loop μ-loop
 add-j c = omega arith
@@ -73,18 +63,17 @@ loop-less c = omega arith
 loop-again : tie.Need-loop-again Inv-loop μ-loop
 loop-again c =
     let p : tie.Start Inv-loop μ-loop = search needs in
-    let w : tie.After-ways Inv-loop μ-loop = search needs in
     let o : tie.At-loop Inv-loop μ-loop = search needs in
     let l : tie.In-loop Inv-loop μ-loop = search needs in
     let n : tie.After-next Inv-loop μ-loop = search needs in
     let t : tie.After-is-open Inv-loop μ-loop = search needs in
-    over-next (p .pre .0) (p .pre .1) (o .loop .inv) (omega (arith, l .loop-test .taken, w .ways .ensures)) (n .next .ensures) (t .is-open .ensures) (c .if1 .left)
+    over-next (p .pre .0) (p .pre .1) (o .loop .inv) (omega (arith, l .loop-test .taken, p .pre .3)) (n .next .ensures) (t .is-open .ensures) (c .if1 .left)
 
 returns-2 : tie.Need-returns-2 Inv-loop μ-loop
 returns-2 c =
-    let w : tie.After-ways Inv-loop μ-loop = search needs in
+    let p : tie.Start Inv-loop μ-loop = search needs in
     let o : tie.At-loop Inv-loop μ-loop = search needs in
-    over-all (o .loop .inv) (omega (arith, c .loop-test .left, w .ways .ensures))
+    over-all (o .loop .inv) (omega (arith, c .loop-test .left, p .pre .3))
 
 pub pass-over-spec : {M : Type 1} → statement M
 pass-over-spec =
@@ -92,7 +81,6 @@ pass-over-spec =
     (tie.spec
     Inv-loop
     μ-loop
-    ways-requires
     loop-holds
     next-requires
     is-open-requires

@@ -1,21 +1,22 @@
 -- `cycles::search::visit` meets its contract: x is passed over, or what the search from a root says is a case of what a visit says. Assumes
 -- nothing.
-use mathlib.Core.Path.{sym, _∙_}
+use mathlib.Core.Path.{_∙_}
 use native.Mathlib.Omega.{arith}
 use borrow.Author.Needs.{needs}
 use Rattle.cycles.proofs.Answers.{no-ways-safe, begun-safe}
+use Rattle.cycles.proofs.Passing.{no-function-no-ways}
 use Rattle.cycles.proofs.Roots.{visited, passed-over}
 use Rattle.cycles.proofs.search.visit.Statement.{statement}
 use Rattle.cycles.proofs.search.visit.Tie as tie
 
-ways-requires : tie.Need-ways-requires
-ways-requires c κs = search needs
+has-ways-requires : tie.Need-has-ways-requires
+has-ways-requires c κs = search needs
 
 returns : tie.Need-returns
 returns c =
     let p : tie.Start = search needs in
-    let w : tie.After-ways = search needs in
-    passed-over (p .args .class .now) (p .pre .1) (λ own. no-ways-safe _ (p .args .x) (sym (w .ways .ensures) ∙ c .if1 .taken))
+    let w : tie.After-has-ways = search needs in
+    passed-over (p .args .class .now) (p .pre .1) (λ own. no-ways-safe _ (p .args .x) (no-function-no-ways (p .args .table .now) (p .args .x) (w .has-ways .ensures) (c .if1 .taken)))
 
 at-requires : tie.Need-at-requires
 at-requires c κs = search needs
@@ -56,7 +57,7 @@ pub visit-spec : {M : Type 1} → statement M
 visit-spec =
     tie.close
     (tie.spec
-    ways-requires
+    has-ways-requires
     returns
     at-requires
     same-length
