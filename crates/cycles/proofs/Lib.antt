@@ -5,5 +5,7 @@ mod Moves
 mod Answers
 mod Passing
 mod Turns
+mod GoingDown
+mod ComingBack
 mod Roots
 pub mod Agree

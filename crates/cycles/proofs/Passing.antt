@@ -5,7 +5,7 @@ use mathlib.Core.Bool.{Bool, true, false, not}
 use mathlib.Core.List.{List}
 use mathlib.Core.Logic.{inr, ⊎-elim}
 use Prim.Native.Nat.{ℕ, _+_, _≤_, _<_}
-use native.Mathlib.Decide.{ℕ-discrete}
+use native.Mathlib.Decide.{ℕ-discrete, decLt}
 use native.Mathlib.Omega.{arith}
 use lib.Dec.{eqb}
 use borrow.Author.Tests.{not-true, eq-eqb, ne-eqb}
@@ -44,6 +44,14 @@ over-one {N} {x} {i} {j} over more end =
     go : (k : ℕ) → i ≤ k → k < j + 1 → Dec (k ≡ j) → Safe N (N .next x k)
     go k h l (yes e) = subst (λ (z : ℕ). Safe N (N .next x z)) (sym e) end
     go k h l (no e) = over .ends k h (omega arith)
+
+pub over-join : {N : Net} {x i j k : ℕ} → Over N x i j → Over N x j k → Over N x i k
+over-join {N} {x} {i} {j} {k} p q =
+    record { from = omega (arith, p .from, q .from); within = q .within; ends = λ z h l. go z h l (decLt z j) }
+  where
+    go : (z : ℕ) → i ≤ z → z < k → Dec (z < j) → Safe N (N .next x z)
+    go z h l (yes m) = p .ends z h m
+    go z h l (no m) = q .ends z (omega arith) l
 
 -- one turn of the loop, by what it read: the number y to which way j leads, and whether y is open
 module _ {t row w : List ℕ} {x i j y : ℕ} {answer : Bool} (ready : Ready t row) (known : Sure (netOf t row) w) (over : Over (netOf t row) x i j)

@@ -28,7 +28,7 @@ module _ {N : Net} {w w′ : List ℕ} {root : ℕ} (S : Search N w 0) (inside :
       subst (λ (v : List ℕ). Turned N w v 1 root 0) (sym stored) (started-at S root inside fresh (λ some. absurd (omega arith)))
 
   root-begun : 0 < mark w′ root
-  root-begun = end-begun (rooted .going) (omega arith)
+  root-begun = end-begun (rooted .going .search) (omega arith) (rooted .going .end (omega arith))
 
   -- the path is empty again
   pub ended : {w″ : List ℕ} {depth : ℕ} → Search N w″ depth → Grown N w′ w″ → depth ≤ 0 → Ended N w w″ (Safe N root)

@@ -1,10 +1,10 @@
 // The search for cycles: whether some class of a table reaches itself through children. The search
 // for loops in a table is the same search, with each node its own class.
 //
-// It goes depth first and does not call itself: the marks and the path lie in the lent work row. A
-// number with no ways is safe: it is neither marked nor put on the path. A number is put on the path
-// once at most, and a way is looked at twice at most, the second time where it was followed, so the
-// time is linear in the number of words.
+// It goes depth first and does not call itself: the marks and the path lie in the lent work row. What
+// is no function has no ways: it is neither marked nor put on the path. A number is put on the path
+// once at most, and a way is passed over or followed once at most, so the time is linear in the number
+// of words.
 mod path;
 mod reads;
 mod search;

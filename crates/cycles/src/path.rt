@@ -1,13 +1,14 @@
 // The path of the search, and the marks along it.
 ghost use mathlib.Core.Path.{_≡_};
-ghost use Prim.Native.Nat.{_+_, _<_, _≤_};
-ghost use lib.ListN.{length, set};
+ghost use Prim.Native.Nat.{_+_, _-_, _<_, _≤_};
+ghost use lib.ListN.{length, getD, set};
 ghost use Rattle.table.specs.Table.{degree};
 ghost use Rattle.cycles.specs.Net.{netOf};
 ghost use Rattle.cycles.specs.Marks.{Ready, Open, Sure, Passed, finishedMark, mark};
 use crate::reads;
 
-// The mark of a finished number. On the path a mark is 1 + the ways passed over, 256 at most.
+// The mark of a finished number. No number on the path has it: there a mark is 1 + the ways passed
+// over, and a number has 255 ways at most.
 const FINISHED: usize = 257;
 
 // Marks x as begun, and puts it on the path at a depth, behind n marks.
@@ -26,6 +27,14 @@ pub fn follow(work: &mut [u16], n: usize, depth: usize, x: usize, j: usize, y: u
 {
     reads::put(work, x, j + 1);
     push(work, n, depth, y);
+}
+
+// The end of a path that is not empty, behind n marks.
+pub fn end(work: &[u16], n: usize, depth: usize) -> usize
+    requires { ⌜ (0 < depth) × (depth ≤ n) × (n + n ≤ length (now work)) × (n ≤ 4096) ⌝ }
+    ensures { λ r. ⌜ r ≡ getD (now (work .entry)) (n + (depth - 1)) 0 ⌝ }
+{
+    reads::at(work, n + (depth - 1))
 }
 
 // Marks x as finished.

@@ -8,14 +8,18 @@ use crate::path;
 use crate::reads;
 
 // Whether a cycle is found from a new number. If not, every walk from it ends.
+//
+// The search has the end of its path in hand: x, and the place i of the way from which to go on. The
+// mark of each number before x is 1 + the place of the way that was followed from it. It is where to go
+// on once the search comes back: by then that way is known to be safe, and is not looked at again.
 fn from_root(table: &[u32], class: &[u16], work: &mut [u16], root: usize) -> bool
     requires { ⌜ Ready (now table) (now class) × Search (netOf (now table) (now class)) (now work) 0 × (root < length (now table)) × (mark (now work) root ≡ 0) ⌝ }
     ensures { λ r. ⌜ Rooted (netOf (now (table .entry)) (now (class .entry))) (now (work .entry)) (now (work .exit)) root r ⌝ }
 {
     path::push(work, table.len(), 0, root);
     let mut depth = 1;
-    let mut x = root; // the end of the path
-    let mut i = 0; // the place of its way to go on from
+    let mut x = root;
+    let mut i = 0;
     while 0 < depth {
         let count = reads::ways(table, x);
         let j = path::pass_over(table, class, work, x, i, count);
@@ -32,7 +36,7 @@ fn from_root(table: &[u32], class: &[u16], work: &mut [u16], root: usize) -> boo
             path::finish(work, x);
             depth -= 1;
             if 0 < depth {
-                x = reads::at(work, table.len() + (depth - 1));
+                x = path::end(work, table.len(), depth);
                 i = reads::at(work, x);
             }
         }
@@ -40,8 +44,8 @@ fn from_root(table: &[u32], class: &[u16], work: &mut [u16], root: usize) -> boo
     false
 }
 
-// The search from x, if x has ways, is new and is the name of its class. Ways lead to names alone, so
-// no cycle passes through any other number.
+// The search from x, if x is a function, is new and is the name of its class. Ways lead to names
+// alone, so no cycle passes through any other number.
 fn visit(table: &[u32], class: &[u16], work: &mut [u16], x: usize) -> bool
     requires { ⌜ Ready (now table) (now class) × Search (netOf (now table) (now class)) (now work) 0 × (x < length (now table)) ⌝ }
     ensures { λ r. ⌜ Visited (netOf (now (table .entry)) (now (class .entry))) (now (class .entry)) (now (work .entry)) (now (work .exit)) x r ⌝ }

@@ -1,16 +1,18 @@
 -- `cycles::search::from_root` meets its contract. The loop's invariant: the search goes on from the end of its path, and no mark fell since
--- the root was begun. The measure is by how much marks can still be raised. The ways through a turn are in proofs/Turns.antt. Assumes
--- nothing.
-use mathlib.Core.Path.{sym, _∙_}
-use Prim.Native.Nat.{_≤_, _<_}
+-- the root was begun. The measure is by how much marks can still be raised. A turn ends by a way out of proofs/GoingDown.antt or
+-- proofs/ComingBack.antt, from what was read on the way there. Assumes nothing.
+use mathlib.Core.Path.{_≡_, sym, _∙_}
+use Prim.Native.Nat.{_<_}
 use native.Mathlib.Omega.{arith}
 use borrow.Author.Needs.{needs}
 use Rattle.cycles.specs.Net.{Net, netOf}
-use Rattle.cycles.specs.Marks.{Grown}
+use Rattle.cycles.specs.Marks.{mark, Grown}
 use Rattle.cycles.proofs.Totals.{left}
 use Rattle.cycles.proofs.Stores.{grown-none, grown-join}
 use Rattle.cycles.proofs.Passing.{sure}
-use Rattle.cycles.proofs.Turns.{Going, Turned, Turning, end-inside, room-there, closing, going-down, coming-back, coming-out, back-inside}
+use Rattle.cycles.proofs.Turns.{Going, Turning, turning, end-inside}
+use Rattle.cycles.proofs.GoingDown.{Facing, room-there, closing, going-down}
+use Rattle.cycles.proofs.ComingBack.{Leaving, back-inside, coming-back, coming-out}
 use Rattle.cycles.proofs.Roots.{stopped-later, rooted, ended}
 use Rattle.cycles.proofs.search.from_root.Statement.{statement}
 use Rattle.cycles.proofs.search.from_root.Tie as tie
@@ -21,40 +23,58 @@ Inv-loop table class work₀ root depth₀ x₀ i₀ work depth x i = Going (net
 abbrev μ-loop : tie.MeasureT-loop
 μ-loop table class work₀ root depth₀ x₀ i₀ work depth x i = left (netOf table class) work
 
--- ---- what is in hand on the way through a turn
+-- ---- what a turn has in hand: the ways passed over, the way to follow, and x finished
 
-abbrev first : tie.After-pass-over Inv-loop μ-loop → tie.Start Inv-loop μ-loop
-first c = search needs
+abbrev start : tie.After-pass-over Inv-loop μ-loop → tie.Start Inv-loop μ-loop
+start c = search needs
 
-abbrev in-hand : tie.After-pass-over Inv-loop μ-loop → tie.At-loop Inv-loop μ-loop
-in-hand c = search needs
+abbrev here : tie.After-pass-over Inv-loop μ-loop → tie.At-loop Inv-loop μ-loop
+here c = search needs
 
 abbrev net : tie.After-pass-over Inv-loop μ-loop → Net
-net c = netOf (first c .args .table .now) (first c .args .class .now)
+net c = netOf (start c .args .table .now) (start c .args .class .now)
 
-turning : (c : tie.After-pass-over Inv-loop μ-loop)
-    → Turning (net c) (in-hand c .loop .work) (in-hand c .loop .depth) (in-hand c .loop .x) (in-hand c .loop .i) (c .pass-over .result)
-turning c =
+turn : (c : tie.After-pass-over Inv-loop μ-loop)
+    → Turning (net c) (here c .loop .work) (here c .loop .depth) (here c .loop .x) (c .pass-over .result)
+turn c =
     let l : tie.In-loop Inv-loop μ-loop = search needs in
-    record { going = in-hand c .loop .inv .0; some = l .loop-test .taken; passed = c .pass-over .ensures }
+    turning (here c .loop .inv .0) (l .loop-test .taken) (c .pass-over .ensures)
 
-x-inside : (c : tie.After-pass-over Inv-loop μ-loop) → in-hand c .loop .x < net c .size
-x-inside c = end-inside (turning c .going) (turning c .some)
+x-inside : (c : tie.After-pass-over Inv-loop μ-loop) → here c .loop .x < net c .size
+x-inside c = end-inside (turn c .search) (turn c .some) (turn c .end)
 
-more : (c : tie.Then1 Inv-loop μ-loop) → c .before .pass-over .result < net (c .before) .count (in-hand (c .before) .loop .x)
+more : (c : tie.Then1 Inv-loop μ-loop) → c .before .pass-over .result < net (c .before) .count (here (c .before) .loop .x)
 more c =
     let w : tie.After-ways Inv-loop μ-loop = search needs in
     omega (arith, c .if1 .taken, w .ways .ensures)
 
-all : (c : tie.Else1 Inv-loop μ-loop) → net (c .before) .count (in-hand (c .before) .loop .x) ≤ c .before .pass-over .result
-all c =
-    let w : tie.After-ways Inv-loop μ-loop = search needs in
-    omega (arith, c .if1 .left, w .ways .ensures)
+abbrev passed : tie.After-next Inv-loop μ-loop → tie.After-pass-over Inv-loop μ-loop
+passed c = c .before .before
 
-y-inside : (c : tie.After-next Inv-loop μ-loop) → c .next .result < net (c .before .before) .size
-y-inside c =
-    let v : tie.After-pass-over Inv-loop μ-loop = c .before .before in
-    omega (arith, c .next .ensures, first v .pre .0 .name-inside (in-hand v .loop .x) (v .pass-over .result) (more (c .before)))
+facing : (c : tie.After-next Inv-loop μ-loop)
+    → Facing (net (passed c)) (here (passed c) .loop .work) (here (passed c) .loop .depth) (here (passed c) .loop .x) (passed c .pass-over .result)
+    (c .next .result)
+facing c =
+    let v : tie.After-pass-over Inv-loop μ-loop = passed c in
+    let name : _ = start v .pre .0 .name-inside (here v .loop .x) (v .pass-over .result) (more (c .before)) in
+    record { turning = turn v; more = more (c .before); leads = sym (c .next .ensures); inside = omega (arith, c .next .ensures, name) }
+
+fresh : (c : tie.Else2 Inv-loop μ-loop)
+    → mark (here (passed (c .before .before .before)) .loop .work) (c .before .before .before .next .result) ≡ 0
+fresh c =
+    let a : tie.After-at Inv-loop μ-loop = search needs in
+    sym (a .at .ensures) ∙ c .if2 .left
+
+abbrev all-passed : tie.After-finish Inv-loop μ-loop → tie.After-pass-over Inv-loop μ-loop
+all-passed c = c .before .before .before
+
+leaving : (c : tie.After-finish Inv-loop μ-loop)
+    → Leaving (net (all-passed c)) (here (all-passed c) .loop .work) (c .finish .last .0) (here (all-passed c) .loop .depth)
+    (here (all-passed c) .loop .x) (all-passed c .pass-over .result)
+leaving c =
+    let w : tie.After-ways Inv-loop μ-loop = search needs in
+    let e : tie.Else1 Inv-loop μ-loop = search needs in
+    record { turning = turn (all-passed c); all = omega (arith, e .if1 .left, w .ways .ensures); stored = c .finish .ensures }
 
 -- ---- the needs
 
@@ -66,14 +86,16 @@ push-requires c κs =
 loop-holds : tie.Need-loop-holds Inv-loop μ-loop
 loop-holds c =
     let p : tie.Start Inv-loop μ-loop = search needs in
-    (rooted (p .pre .1) (p .pre .2) (p .pre .3) (c .before .before .push .ensures) .going, grown-none)
+    let q : tie.After-push Inv-loop μ-loop = search needs in
+    (rooted (p .pre .1) (p .pre .2) (p .pre .3) (q .push .ensures) .going, grown-none)
 
 ways-requires : tie.Need-ways-requires Inv-loop μ-loop
 ways-requires c κs =
     let p : tie.Start Inv-loop μ-loop = search needs in
     let o : tie.At-loop Inv-loop μ-loop = search needs in
     let l : tie.In-loop Inv-loop μ-loop = search needs in
-    (p .pre .0 .laid, p .pre .0 .small, end-inside (o .loop .inv .0) (l .loop-test .taken))
+    let going : _ = o .loop .inv .0 in
+    (p .pre .0 .laid, p .pre .0 .small, end-inside (going .search) (l .loop-test .taken) (going .end (l .loop-test .taken)))
 
 pass-over-requires : tie.Need-pass-over-requires Inv-loop μ-loop
 pass-over-requires c κs =
@@ -81,27 +103,32 @@ pass-over-requires c κs =
     let o : tie.At-loop Inv-loop μ-loop = search needs in
     let l : tie.In-loop Inv-loop μ-loop = search needs in
     let w : tie.After-ways Inv-loop μ-loop = search needs in
-    let going : _ = o .loop .inv .0 in
-    (p .pre .0, sure (going .search), end-inside going (l .loop-test .taken), w .ways .ensures, omega (arith, going .over (l .loop-test .taken) .within, w .ways .ensures))
+    let going : _ = o .loop .inv .0 in (
+      p .pre .0,
+      sure (going .search),
+      end-inside (going .search) (l .loop-test .taken) (going .end (l .loop-test .taken)),
+      w .ways .ensures,
+      omega (arith, going .over (l .loop-test .taken) .within, w .ways .ensures),
+    )
 
 next-requires : tie.Need-next-requires Inv-loop μ-loop
 next-requires c κs =
     let p : tie.Start Inv-loop μ-loop = search needs in
     let v : tie.After-pass-over Inv-loop μ-loop = search needs in
-    let child : _ = p .pre .0 .child-inside (in-hand v .loop .x) (v .pass-over .result) (more c) in (
+    let child : _ = p .pre .0 .child-inside (here v .loop .x) (v .pass-over .result) (more c) in (
       p .pre .0 .laid,
       p .pre .0 .small,
       more c,
       omega (arith, child, p .pre .0 .row-room),
       omega (arith, x-inside v, p .pre .0 .small),
-      omega (arith, more c, p .pre .0 .counts (in-hand v .loop .x)),
+      omega (arith, more c, p .pre .0 .counts (here v .loop .x)),
     )
 
 at-requires : tie.Need-at-requires Inv-loop μ-loop
 at-requires c κs =
     let o : tie.At-loop Inv-loop μ-loop = search needs in
     let n : tie.After-next Inv-loop μ-loop = search needs in
-    omega (arith, y-inside n, o .loop .inv .0 .search .room)
+    omega (arith, facing n .inside, o .loop .inv .0 .search .room)
 
 same-length : tie.Need-same-length Inv-loop μ-loop
 same-length c =
@@ -114,12 +141,10 @@ returns c =
     let p : tie.Start Inv-loop μ-loop = search needs in
     let q : tie.After-push Inv-loop μ-loop = search needs in
     let o : tie.At-loop Inv-loop μ-loop = search needs in
-    let v : tie.After-pass-over Inv-loop μ-loop = search needs in
-    let b : tie.Then1 Inv-loop μ-loop = search needs in
     let n : tie.After-next Inv-loop μ-loop = search needs in
     let a : tie.After-at Inv-loop μ-loop = search needs in
     stopped-later (grown-join (rooted (p .pre .1) (p .pre .2) (p .pre .3) (q .push .ensures) .grown) (o .loop .inv .1))
-    (closing (turning v) (more b) (n .next .ensures) (y-inside n) (λ e. c .if2 .taken (a .at .ensures ∙ e)))
+    (closing (facing n) (λ e. c .if2 .taken (a .at .ensures ∙ e)))
 
 follow-requires : tie.Need-follow-requires Inv-loop μ-loop
 follow-requires c κs =
@@ -128,13 +153,11 @@ follow-requires c κs =
     let v : tie.After-pass-over Inv-loop μ-loop = search needs in
     let b : tie.Then1 Inv-loop μ-loop = search needs in
     let n : tie.After-next Inv-loop μ-loop = search needs in
-    let a : tie.After-at Inv-loop μ-loop = search needs in
-    let d : tie.Else2 Inv-loop μ-loop = search needs in
-    let room : _ = room-there (turning v) (more b) (n .next .ensures) (y-inside n) (sym (a .at .ensures) ∙ d .if2 .left) in (
-      omega (arith, room, o .loop .inv .0 .search .room),
+    let d : tie.Else2 Inv-loop μ-loop = search needs in (
+      omega (arith, room-there (facing n) (fresh d), o .loop .inv .0 .search .room),
       x-inside v,
-      omega (arith, more b, p .pre .0 .counts (in-hand v .loop .x)),
-      y-inside n,
+      omega (arith, more b, p .pre .0 .counts (here v .loop .x)),
+      facing n .inside,
       p .pre .0 .small,
     )
 
@@ -146,25 +169,18 @@ add-depth c =
 
 loop-less : tie.Need-loop-less Inv-loop μ-loop
 loop-less c =
-    let v : tie.After-pass-over Inv-loop μ-loop = search needs in
-    let b : tie.Then1 Inv-loop μ-loop = search needs in
     let n : tie.After-next Inv-loop μ-loop = search needs in
-    let a : tie.After-at Inv-loop μ-loop = search needs in
     let d : tie.Else2 Inv-loop μ-loop = search needs in
     let f : tie.After-follow Inv-loop μ-loop = search needs in
-    let down : Turned (net v) _ _ _ _ _ = going-down (turning v) (more b) (n .next .ensures) (y-inside n) (sym (a .at .ensures) ∙ d .if2 .left) (f .follow .ensures) in
-    down .less
+    going-down (facing n) (fresh d) (f .follow .ensures) .less
 
 loop-again : tie.Need-loop-again Inv-loop μ-loop
 loop-again c =
     let o : tie.At-loop Inv-loop μ-loop = search needs in
-    let v : tie.After-pass-over Inv-loop μ-loop = search needs in
-    let b : tie.Then1 Inv-loop μ-loop = search needs in
     let n : tie.After-next Inv-loop μ-loop = search needs in
-    let a : tie.After-at Inv-loop μ-loop = search needs in
     let d : tie.Else2 Inv-loop μ-loop = search needs in
     let f : tie.After-follow Inv-loop μ-loop = search needs in
-    let down : Turned (net v) _ _ _ _ _ = going-down (turning v) (more b) (n .next .ensures) (y-inside n) (sym (a .at .ensures) ∙ d .if2 .left) (f .follow .ensures) in
+    let down : _ = going-down (facing n) (fresh d) (f .follow .ensures) in
     (down .going, grown-join (o .loop .inv .1) (down .grown))
 
 finish-requires : tie.Need-finish-requires Inv-loop μ-loop
@@ -176,67 +192,50 @@ finish-requires c κs =
 sub-depth : tie.Need-sub-depth Inv-loop μ-loop
 sub-depth c = omega arith
 
-sub-at : tie.Need-sub-at Inv-loop μ-loop
-sub-at c = omega arith
-
-add-at : tie.Need-add-at Inv-loop μ-loop
-add-at c =
+end-requires : tie.Need-end-requires Inv-loop μ-loop
+end-requires c κs =
     let p : tie.Start Inv-loop μ-loop = search needs in
     let o : tie.At-loop Inv-loop μ-loop = search needs in
-    omega (arith, o .loop .inv .0 .search .few, p .pre .0 .small)
+    let t : tie.Then3 Inv-loop μ-loop = search needs in
+    let g : tie.After-finish Inv-loop μ-loop = search needs in
+    let S : _ = o .loop .inv .0 .search in
+    (t .if3 .taken, omega (arith, S .few), omega (arith, S .room, g .finish .kept .0), p .pre .0 .small)
 
 at-requires-2 : tie.Need-at-requires-2 Inv-loop μ-loop
 at-requires-2 c κs =
     let o : tie.At-loop Inv-loop μ-loop = search needs in
     let g : tie.After-finish Inv-loop μ-loop = search needs in
-    omega (arith, o .loop .inv .0 .search .few, o .loop .inv .0 .search .room, g .finish .kept .0)
-
-at-requires-3 : tie.Need-at-requires-3 Inv-loop μ-loop
-at-requires-3 c κs =
-    let o : tie.At-loop Inv-loop μ-loop = search needs in
-    let v : tie.After-pass-over Inv-loop μ-loop = search needs in
-    let e : tie.Else1 Inv-loop μ-loop = search needs in
-    let g : tie.After-finish Inv-loop μ-loop = search needs in
     let t : tie.Then3 Inv-loop μ-loop = search needs in
-    let y : tie.After-at2 Inv-loop μ-loop = search needs in
-    omega (arith, back-inside (turning v) (all e) (g .finish .ensures) (t .if3 .taken) (y .at2 .ensures), o .loop .inv .0 .search .room, g .finish .kept .0)
+    let y : tie.After-end Inv-loop μ-loop = search needs in
+    omega (arith, back-inside (leaving g) (t .if3 .taken) (y .end .ensures), o .loop .inv .0 .search .room, g .finish .kept .0)
 
 loop-less-2 : tie.Need-loop-less-2 Inv-loop μ-loop
 loop-less-2 c =
-    let v : tie.After-pass-over Inv-loop μ-loop = search needs in
-    let e : tie.Else1 Inv-loop μ-loop = search needs in
     let g : tie.After-finish Inv-loop μ-loop = search needs in
     let t : tie.Then3 Inv-loop μ-loop = search needs in
-    let y : tie.After-at2 Inv-loop μ-loop = search needs in
-    let back : Turned (net v) _ _ _ _ _ = coming-back (turning v) (all e) (g .finish .ensures) (t .if3 .taken) (y .at2 .ensures) (c .at3 .ensures) in
-    back .less
+    let y : tie.After-end Inv-loop μ-loop = search needs in
+    coming-back (leaving g) (t .if3 .taken) (y .end .ensures) (c .at2 .ensures) .less
 
 loop-again-2 : tie.Need-loop-again-2 Inv-loop μ-loop
 loop-again-2 c =
     let o : tie.At-loop Inv-loop μ-loop = search needs in
-    let v : tie.After-pass-over Inv-loop μ-loop = search needs in
-    let e : tie.Else1 Inv-loop μ-loop = search needs in
     let g : tie.After-finish Inv-loop μ-loop = search needs in
     let t : tie.Then3 Inv-loop μ-loop = search needs in
-    let y : tie.After-at2 Inv-loop μ-loop = search needs in
-    let back : Turned (net v) _ _ _ _ _ = coming-back (turning v) (all e) (g .finish .ensures) (t .if3 .taken) (y .at2 .ensures) (c .at3 .ensures) in
+    let y : tie.After-end Inv-loop μ-loop = search needs in
+    let back : _ = coming-back (leaving g) (t .if3 .taken) (y .end .ensures) (c .at2 .ensures) in
     (back .going, grown-join (o .loop .inv .1) (back .grown))
 
 loop-less-3 : tie.Need-loop-less-3 Inv-loop μ-loop
 loop-less-3 c =
-    let v : tie.After-pass-over Inv-loop μ-loop = search needs in
-    let e : tie.Else1 Inv-loop μ-loop = search needs in
+    let o : tie.At-loop Inv-loop μ-loop = search needs in
     let g : tie.After-finish Inv-loop μ-loop = search needs in
-    let out : Turned (net v) _ _ _ (in-hand v .loop .x) (in-hand v .loop .i) = coming-out (turning v) (all e) (g .finish .ensures) (c .if3 .left) in
-    out .less
+    coming-out (leaving g) (o .loop .x) (o .loop .i) (c .if3 .left) .less
 
 loop-again-3 : tie.Need-loop-again-3 Inv-loop μ-loop
 loop-again-3 c =
     let o : tie.At-loop Inv-loop μ-loop = search needs in
-    let v : tie.After-pass-over Inv-loop μ-loop = search needs in
-    let e : tie.Else1 Inv-loop μ-loop = search needs in
     let g : tie.After-finish Inv-loop μ-loop = search needs in
-    let out : Turned (net v) _ _ _ (in-hand v .loop .x) (in-hand v .loop .i) = coming-out (turning v) (all e) (g .finish .ensures) (c .if3 .left) in
+    let out : _ = coming-out (leaving g) (o .loop .x) (o .loop .i) (c .if3 .left) in
     (out .going, grown-join (o .loop .inv .1) (out .grown))
 
 same-length-2 : tie.Need-same-length-2 Inv-loop μ-loop
@@ -272,10 +271,8 @@ from-root-spec =
     loop-again
     finish-requires
     sub-depth
-    sub-at
-    add-at
+    end-requires
     at-requires-2
-    at-requires-3
     loop-less-2
     loop-again-2
     loop-less-3
