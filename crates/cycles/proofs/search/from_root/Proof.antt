@@ -25,11 +25,11 @@ abbrev μ-loop : tie.MeasureT-loop
 
 -- ---- what a turn has in hand: the ways passed over, the way to follow, and x finished
 
-abbrev start : tie.After-pass-over Inv-loop μ-loop → tie.Start Inv-loop μ-loop
-start c = search needs
-
 abbrev here : tie.After-pass-over Inv-loop μ-loop → tie.At-loop Inv-loop μ-loop
-here c = search needs
+here c = c .before .before .before .before
+
+abbrev start : tie.After-pass-over Inv-loop μ-loop → tie.Start Inv-loop μ-loop
+start c = here c .before .before .before .before .before .before .before .before
 
 abbrev net : tie.After-pass-over Inv-loop μ-loop → Net
 net c = netOf (start c .args .table .now) (start c .args .class .now)
