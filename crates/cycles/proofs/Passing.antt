@@ -1,5 +1,6 @@
 -- Ways passed over: the marks of a search are enough to do it (`sure`), what the tests of a number say (`open-read`,
--- `no-function-no-ways`), and the turns of the loop (`over-none`, `over-next`, `stops-here`, `over-all`). Assumes nothing.
+-- `no-function-no-ways`), the turns of the loop (`over-none`, `over-next`, `stops-here`, `over-all`), and ways passed over twice in
+-- a row (`over-join`). Assumes nothing.
 use mathlib.Core.Path.{_≡_, sym, ap, _∙_, subst}
 use mathlib.Core.Bool.{Bool, true, false, not}
 use mathlib.Core.List.{List}
