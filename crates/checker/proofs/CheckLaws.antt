@@ -1,7 +1,7 @@
 -- The stages of the check put together.
 --
--- In order: names and loops by their rows; what the shape rows let pass is shaped (`accepted-shaped`); the two stages
--- (`shape-refused`, `shape-passed`); size and room; the whole (`check-size`, `check-room`, `check-faults`).
+-- In order: names and loops by their rows; what the shape rows let pass is shaped (`accepted-shaped`); the stages
+-- (`shape-refused`, `shape-passed`, `sound-stage`); size and room; the whole (`check-size`, `check-room`, `check-faults`).
 -- Assumes nothing.
 use mathlib.Core.Path.{_≡_, refl, sym, ap, _∙_, subst}
 use mathlib.Core.Bool.{Bool, true, false}
@@ -11,58 +11,64 @@ use Prim.Native.Nat.{ℕ, _*_, _≤_, _<_}
 use native.Mathlib.Omega.{arith}
 use lib.ListN.{length, drop, replicate}
 use Rattle.graphs.proofs.Classes.{never}
-use Rattle.table.specs.Table.{nodeKind}
-use Rattle.table.specs.Answers.{Lowest, Answered}
-use Rattle.table.specs.Faults.{Job, Repeats, SIZE, ROOM, NAME, LOOP, number, Fault, size-fault, room-fault, name-fault, loop-fault}
+use Rattle.table.specs.Answers.{Answered}
+use Rattle.table.specs.Faults.{Job, Row, Repeats, SIZE, ROOM, NAME, LOOP, number, Fault, size-fault, room-fault, name-fault, loop-fault}
 use Rattle.table.specs.Shaped.{Shaped}
-use Rattle.table.proofs.Shape.{inside-kind}
 use Rattle.table.proofs.WellFormed.{no-fault-shaped}
 use Rattle.table.proofs.OneAnswer.{refused-first, passed-first, number-positive}
 use Rattle.checker.specs.declared.answer.Checked.{Checked}
 use Rattle.checker.specs.declared.answer.Checked.the-variants.{Accepted, Size, Room, Word, Layout, Pointer, Name, Loop}
 use Rattle.checker.specs.Check.{numberOf, placeOf, zeroed, left, jobOf, CheckOf}
-use Rattle.checker.specs.Names.{FirstRepeated}
-use Rattle.checker.specs.Stages.{ByRows, shapeRows, nameRows, passes, Roomy, Stage, Loops, LoopSearch}
+use Rattle.checker.specs.Names.{RestStays, FirstRepeated}
+use Rattle.checker.specs.Sound.{SoundTable}
+use Rattle.checker.specs.Stages.{ByRows, shapeRows, nameRows, loopRows, passes, Roomy, Stage, Loops, LoopSearch}
+use Rattle.checker.proofs.NameLaws.{repeats-inside}
+use Rattle.checker.proofs.Stages.{shaped-accepted}
 
 -- ---- names and loops
 
-repeats-inside : {t : List ℕ} {a : ℕ} → Repeats t a → a < length t
-repeats-inside {t} {a} r = inside-kind t a nodeKind refl (ap nodeKind (r .later))
-
 module _ {t before after : List ℕ} {found : ℕ} (scan : FirstRepeated t before after found) where
-  lowest-repeat : found < length t → Lowest (Repeats t) found
-  lowest-repeat h = record { has = scan .repeats h; none-below = scan .none-before }
-
-  no-name : length t ≤ found → (list : List ℕ) (c w p : ℕ) → Fault (record { table = t; list = list; class-room = c; work-room = w }) NAME p → ⊥
-  no-name h list c w p (name-fault l) = scan .none-before p (omega (arith, repeats-inside (l .has))) (l .has)
-
-  pub name-repeats : found < length t → ByRows nameRows t (Name (record { 0 = found }))
+  pub name-stage : {class : List ℕ} → found < length t → Stage nameRows t class before (Name (record { 0 = found })) class after
   unfolding number
-  name-repeats h list c w = inl (refl, name-fault (lowest-repeat h))
+  name-stage h = record {
+    answered = λ list c w. inl (refl, name-fault (record { has = scan .repeats h; none-below = scan .none-before }));
+    kept = record { class-kept = refl; work-kept = scan .stays .rest };
+  }
 
-  pub loop-there : length t ≤ found → Loops true t → ByRows nameRows t Loop
-  unfolding number
-  loop-there h (x, s) list c w = inr (no-name h list c w, inl (refl, loop-fault x s))
+  pub none-repeats : length t ≤ found → (a : ℕ) → Repeats t a → ⊥
+  none-repeats h a r = scan .none-before a (omega (arith, repeats-inside r)) r
 
-  pub loop-free : length t ≤ found → Loops false t → ByRows nameRows t Accepted
-  loop-free h none-loops list c w = inr (no-name h list c w, inr (no-loop, (refl, refl)))
+module _ {t class work class-after work-after : List ℕ} where
+  -- the answer by row 7
+  module _ {b : Bool} (search : LoopSearch t class work b class-after work-after) where
+    pub loop-stage : b ≡ true → Stage loopRows t class work Loop class-after work-after
+    unfolding number
+    loop-stage e = record { answered = λ list c w. there (subst (λ (x : Bool). Loops x t) e (search .truth)) list c w; kept = search .kept }
+      where
+        there : Loops true t → ByRows loopRows t Loop
+        there (x, s) list c w = inl (refl, loop-fault x s)
+
+    pub pass-stage : b ≡ false → Stage loopRows t class work Accepted class-after work-after
+    pass-stage e = record { answered = λ list c w. inr (none list c w, (refl, refl)); kept = search .kept }
+      where
+        none : (list : List ℕ) (c w p : ℕ) → Fault (record { table = t; list = list; class-room = c; work-room = w }) LOOP p → ⊥
+        none list c w p (loop-fault x s) = subst (λ (x : Bool). Loops x t) e (search .truth) x s
+
+  -- .. and by row 6 before it, for a table in which no name is repeated
+  pub names-passed : {answer : Checked} → ((a : ℕ) → Repeats t a → ⊥) → Stage loopRows t class work answer class-after work-after
+      → Stage nameRows t class work answer class-after work-after
+  names-passed none stage = record { answered = λ list c w. inr (no-name list c w, stage .answered list c w); kept = stage .kept }
     where
-      no-loop : (p : ℕ) → Fault (record { table = t; list = list; class-room = c; work-room = w }) LOOP p → ⊥
-      no-loop p (loop-fault x s) = none-loops x s
+      no-name : (list : List ℕ) (c w p : ℕ) → Fault (record { table = t; list = list; class-room = c; work-room = w }) NAME p → ⊥
+      no-name list c w p (name-fault l) = none p (l .has)
 
-module _ {t class work between : List ℕ} {found : ℕ} (scan : FirstRepeated t work between found) where
-  pub name-stage : found < length t → Stage nameRows t class work (Name (record { 0 = found })) class between
-  name-stage h = record { answered = name-repeats scan h; kept = record { class-kept = refl; work-kept = scan .rest-stays } }
-
-  after-scan : {class-after work-after : List ℕ} {answer : Checked} {b : Bool} → ByRows nameRows t answer → LoopSearch t class between b class-after work-after → Stage nameRows t class work answer class-after work-after
-  after-scan by search =
-      record { answered = by; kept = record { class-kept = search .kept .class-kept; work-kept = search .kept .work-kept ∙ scan .rest-stays } }
-
-  pub loop-stage : {class-after work-after : List ℕ} {b : Bool} → length t ≤ found → LoopSearch t class between b class-after work-after → b ≡ true → Stage nameRows t class work Loop class-after work-after
-  loop-stage h search e = after-scan (loop-there scan h (subst (λ (x : Bool). Loops x t) e (search .truth))) search
-
-  pub pass-stage : {class-after work-after : List ℕ} {b : Bool} → length t ≤ found → LoopSearch t class between b class-after work-after → b ≡ false → Stage nameRows t class work Accepted class-after work-after
-  pass-stage h search e = after-scan (loop-free scan h (subst (λ (x : Bool). Loops x t) e (search .truth))) search
+-- A stage that was lent the work row after another had written below 4n.
+pub lent-later : {rows : List Row} {t class before work class-after work-after : List ℕ} {answer : Checked} → RestStays t before work
+    → Stage rows t class work answer class-after work-after → Stage rows t class before answer class-after work-after
+lent-later s stage = record {
+  answered = stage .answered;
+  kept = record { class-kept = stage .kept .class-kept; work-kept = stage .kept .work-kept ∙ s .rest };
+}
 
 -- ---- the shape rows
 
@@ -100,7 +106,7 @@ accepted-shaped {t} r some-word p by = go (subst (ByRows shapeRows t) (is-passed
     go (inr (word, inr (layout, inl (e, x)))) = absurd (omega arith)
     go (inr (word, inr (layout, inr (pointer, rest)))) = no-fault-shaped job some-word word layout pointer
 
--- ---- the two stages
+-- ---- the stages
 
 pub shape-refused : {t class work : List ℕ} {r : Checked} → passes r ≡ false → ByRows shapeRows t r → Stage (shapeRows ++ nameRows) t class work r class work
 shape-refused {t} {class} {work} {r} p by =
@@ -119,6 +125,11 @@ shape-passed {t} {class} {work} {class-after} {work-after} shape {r} p by stage 
           (stage .answered list c w);
       kept = stage .kept;
     }
+
+-- the walk found the table sound
+pub sound-stage : {t class work between class-after work-after : List ℕ} {sound : Bool} {answer : Checked} → SoundTable t work between sound → sound ≡ true
+    → Stage loopRows t class between answer class-after work-after → Stage (shapeRows ++ nameRows) t class work answer class-after work-after
+sound-stage walk e stage = shape-passed Accepted refl (shaped-accepted (walk .shows e .0)) (lent-later (walk .stays) (names-passed (walk .shows e .1) stage))
 
 -- ---- size and room
 

@@ -8,4 +8,5 @@ pub mod OneCheck
 pub mod Search
 pub mod SoundLaws
 pub mod Stages
+pub mod WalkLaws
 pub mod WordLaws

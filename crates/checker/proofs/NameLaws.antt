@@ -1,7 +1,11 @@
 -- The chains in the work row, and what the scan for repeated names knows at each address. In order:
 --   is-variable, is-other   the test of a kind
+--   repeats-inside   a repeated name stands in the table
 --   put-front      two stores put a variable in front of its chain
+--   stays-same, stays-on     what of the work row stays
+--   chained-pass   an address that is no variable is passed by
 --   judged-..      the three ways in which an address is judged
+--   chained-none   a cleared row has empty chains
 --   NoneYet        no address passed repeats a name; none-first, none-more
 --   answer-here, answer-nowhere    the scan's two answers
 -- Assumes nothing.
@@ -17,9 +21,10 @@ use Rattle.rows.proofs.Laws.{behind-cleared, cleared-zero}
 use Rattle.words.specs.Word.{kindOf}
 use Rattle.words.specs.declared.kind.Kind.{Kind}
 use Rattle.words.specs.declared.kind.Kind.the-variants.{Variable, Constant, Function, Pointer, Count, NoWord}
-use Rattle.table.specs.Table.{wordAt, kindAt, contentAt}
+use Rattle.table.specs.Table.{wordAt, kindAt, contentAt, nodeKind}
+use Rattle.table.proofs.Shape.{inside-kind}
 use Rattle.table.specs.Faults.{Repeats}
-use Rattle.checker.specs.Names.{variableKind, Either, startOf, headIn, nextIn, Chained, ChainedOn, Judged, FirstRepeated}
+use Rattle.checker.specs.Names.{variableKind, Either, startOf, headIn, nextIn, RestStays, Chained, ChainedOn, Judged, FirstRepeated}
 use Rattle.checker.proofs.ChainLaws.{chains-none, chains-pass, chains-more, InFront}
 
 pub is-variable : (k : Kind) → variableKind k ≡ true → k ≡ Variable
@@ -32,6 +37,9 @@ is-variable NoWord e = absurd (true≢false (sym e))
 
 pub is-other : (k : Kind) → variableKind k ≡ false → k ≡ Variable → ⊥
 is-other k e v = true≢false (sym (ap variableKind v) ∙ e)
+
+pub repeats-inside : {t : List ℕ} {a : ℕ} → Repeats t a → a < length t
+repeats-inside {t} {a} r = inside-kind t a nodeKind refl (ap nodeKind (r .later))
 
 -- no variable stands at address 0
 past-first : {t work : List ℕ} {a : ℕ} → Chained t work a → kindAt t a ≡ Variable → a ≡ 0 → ⊥
@@ -67,13 +75,25 @@ module _ (t work : List ℕ) (a h : ℕ) (room : 4 * length t ≤ length work) (
       room = simp length-set room;
       chains = chains-more (c .chains) in-front (omega (arith, past-first c k)) slot start k;
     };
-    rest-stays =
-        drop-set-lt (4 * length t) (linked t work a h) h a (omega arith)
-        ∙ drop-set-lt (4 * length t) work (3 * length t + a) (getD work h 0) (omega arith);
-    same-length = simp length-set;
+    stays = record {
+      rest =
+          drop-set-lt (4 * length t) (linked t work a h) h a (omega arith)
+          ∙ drop-set-lt (4 * length t) work (3 * length t + a) (getD work h 0) (omega arith);
+      same-length = simp length-set;
+    };
   }
 
 -- ---- one address
+
+-- the work row is not written
+pub stays-same : (t work : List ℕ) → RestStays t work work
+stays-same t work = record { rest = refl; same-length = refl }
+
+pub stays-on : {t x y z : List ℕ} → RestStays t x y → RestStays t y z → RestStays t x z
+stays-on p q = record { rest = q .rest ∙ p .rest; same-length = q .same-length ∙ p .same-length }
+
+pub chained-pass : {t work : List ℕ} {a : ℕ} → Chained t work a → (kindAt t a ≡ Variable → ⊥) → Chained t work (a + 1)
+chained-pass c other = record { no-variable = c .no-variable; small = c .small; room = c .room; chains = chains-pass (c .chains) other }
 
 pub variable-read : {kind : Kind} {b : Bool} (t : List ℕ) (a : ℕ) → kind ≡ kindAt t a → b ≡ variableKind kind → b ≡ true → kindAt t a ≡ Variable
 variable-read t a k e yes-it-is = is-variable (kindAt t a) (ap variableKind (sym k) ∙ sym e ∙ yes-it-is)
@@ -89,11 +109,7 @@ judged-other {t} {work} {a} c k e no-it-is-not =
     let other : (kindAt t a ≡ Variable → ⊥) = is-other (kindAt t a) (ap variableKind (sym k) ∙ sym e ∙ no-it-is-not) in
     record {
       verdict = λ r. other (r .later);
-      goes-on = record {
-        chained = record { no-variable = c .no-variable; small = c .small; room = c .room; chains = chains-pass (c .chains) other };
-        rest-stays = refl;
-        same-length = refl;
-      };
+      goes-on = record { chained = chained-pass c other; stays = stays-same t work };
     }
 
 module _ {b : Bool} (t work : List ℕ) (a : ℕ) (told : Either b (Repeats t a) (Repeats t a → ⊥)) where
@@ -103,13 +119,12 @@ module _ {b : Bool} (t work : List ℕ) (a : ℕ) (told : Either b (Repeats t a)
   pub judged-new : {exit : List ℕ} → b ≡ false → ChainedOn t work exit (a + 1) → Judged t work exit a false
   judged-new e on = record { verdict = subst (λ c. Either c (Repeats t a) (Repeats t a → ⊥)) e told; goes-on = on }
 
--- ---- the scan
+-- the work row, whatever the verdict
+pub judged-stays : {t work exit : List ℕ} {a : ℕ} (b : Bool) → Judged t work exit a b → RestStays t work exit
+judged-stays {t} {work} true j = subst (RestStays t work) (sym (j .goes-on)) (stays-same t work)
+judged-stays false j = j .goes-on .stays
 
--- The scan has come to a, from a row that was cleared, and no address below a repeats a name.
-pub record NoneYet (t cleared work : List ℕ) (a : ℕ) : Type 0 where
-  pub row : ChainedOn t cleared work a
-  pub within : a ≤ length t
-  pub none-before : (j : ℕ) → j < a → Repeats t j → ⊥
+-- ---- no chains
 
 -- the first n entries of a row were set to 0
 pub record Cleared (n : ℕ) (entry cleared : List ℕ) : Type 0 where
@@ -120,81 +135,75 @@ module _ {n : ℕ} {entry cleared : List ℕ} (c : Cleared n entry cleared) wher
   cleared-length : length cleared ≡ length entry
   cleared-length = ap length (c .row) ∙ simp (length-append, length-replicate, length-drop) (omega (arith, c .fits))
 
-  cleared-rest : drop n cleared ≡ drop n entry
-  cleared-rest = ap (drop n) (c .row) ∙ behind-cleared entry n n (omega arith)
+  cleared-rest : (m : ℕ) → n ≤ m → drop m cleared ≡ drop m entry
+  cleared-rest m h = ap (drop m) (c .row) ∙ behind-cleared entry n m h
 
   zero-below : (h : ℕ) → h < n → getD cleared h 0 ≡ 0
   zero-below h i = ap (λ l. getD l h 0) (c .row) ∙ cleared-zero entry n h i
 
-pub none-first :
+pub chained-none :
     {t entry cleared : List ℕ} →
-    Cleared (4 * length t) entry cleared →
-    0 < length t →
     length t ≤ 4096 →
+    4 * length t ≤ length entry →
     wordAt t 0 ≡ 0 →
-    NoneYet t cleared cleared 1
+    cleared ≡ replicate (3 * length t) 0 ++ drop (3 * length t) entry →
+    ChainedOn t entry cleared 1
 unfolding kindOf
-none-first {t} {entry} {cleared} c some small e = record {
-  row = record {
-    chained = record {
-      no-variable = ap kindOf e;
-      small = small;
-      room = omega (arith, c .fits, cleared-length c);
-      chains = chains-none t (3 * length t) (headIn cleared) (nextIn t cleared) (λ h i. zero-below c h (omega arith));
-    };
-    rest-stays = refl;
-    same-length = refl;
-  };
+chained-none {t} {entry} {cleared} small room first e =
+    let c : Cleared (3 * length t) entry cleared = record { fits = omega arith; row = e } in
+    record {
+      chained = record {
+        no-variable = ap kindOf first;
+        small = small;
+        room = omega (arith, cleared-length c);
+        chains = chains-none t (3 * length t) (headIn cleared) (nextIn t cleared) (zero-below c);
+      };
+      stays = record { rest = cleared-rest c (4 * length t) (omega arith); same-length = cleared-length c };
+    }
+
+-- ---- the scan
+
+-- The scan has come to a, and no address below a repeats a name.
+pub record NoneYet (t entry work : List ℕ) (a : ℕ) : Type 0 where
+  pub row : ChainedOn t entry work a
+  pub within : a ≤ length t
+  pub none-before : (j : ℕ) → j < a → Repeats t j → ⊥
+
+pub none-first : {t work : List ℕ} → Chained t work 1 → 0 < length t → NoneYet t work work 1
+none-first {t} {work} c some = record {
+  row = record { chained = c; stays = stays-same t work };
   within = some;
   none-before = λ j i r. omega (arith, r .before);
 }
 
 pub none-more :
-    {t cleared work exit : List ℕ} {a : ℕ} {b : Bool} →
-    NoneYet t cleared work a →
+    {t entry work exit : List ℕ} {a : ℕ} {b : Bool} →
+    NoneYet t entry work a →
     a < length t →
     Judged t work exit a b →
     b ≡ false →
-    NoneYet t cleared exit (a + 1)
-none-more {t} {cleared} {work} {exit} {a} s h j e =
+    NoneYet t entry exit (a + 1)
+none-more {t} {entry} {work} {exit} {a} s h j e =
     let d : Judged t work exit a false = subst (λ c. Judged t work exit a c) e j in
     record {
-      row = record {
-        chained = d .goes-on .chained;
-        rest-stays = d .goes-on .rest-stays ∙ s .row .rest-stays;
-        same-length = d .goes-on .same-length ∙ s .row .same-length;
-      };
+      row = record { chained = d .goes-on .chained; stays = stays-on (s .row .stays) (d .goes-on .stays) };
       within = omega arith;
       none-before = below-more (λ k. Repeats t k → ⊥) a (s .none-before) (d .verdict);
     }
 
-pub answer-here :
-    {t entry cleared work exit : List ℕ} {a : ℕ} {b : Bool} →
-    Cleared (4 * length t) entry cleared →
-    NoneYet t cleared work a →
-    Judged t work exit a b →
-    b ≡ true →
-    FirstRepeated t entry exit a
-answer-here {t} {entry} {cleared} {work} {exit} {a} c s j e =
-    let d : Judged t work exit a true = subst (λ c. Judged t work exit a c) e j in
-    record {
-      within = s .within;
-      none-before = s .none-before;
-      repeats = λ h. d .verdict;
-      rest-stays = ap (drop (4 * length t)) (d .goes-on) ∙ s .row .rest-stays ∙ cleared-rest c;
-      same-length = ap length (d .goes-on) ∙ s .row .same-length ∙ cleared-length c;
-    }
+module _ {t entry cleared work : List ℕ} {a : ℕ} (c : RestStays t entry cleared) (s : NoneYet t cleared work a) where
+  pub answer-here : {exit : List ℕ} {b : Bool} → Judged t work exit a b → b ≡ true → FirstRepeated t entry exit a
+  answer-here {exit} {b} j e = record {
+    within = s .within;
+    none-before = s .none-before;
+    repeats = λ h. let d : Judged t work exit a true = subst (λ c. Judged t work exit a c) e j in d .verdict;
+    stays = stays-on c (stays-on (s .row .stays) (judged-stays b j));
+  }
 
-pub answer-nowhere :
-    {t entry cleared work : List ℕ} {a : ℕ} →
-    Cleared (4 * length t) entry cleared →
-    NoneYet t cleared work a →
-    length t ≤ a →
-    FirstRepeated t entry work a
-answer-nowhere {t} c s h = record {
-  within = s .within;
-  none-before = s .none-before;
-  repeats = λ k. absurd (omega arith);
-  rest-stays = s .row .rest-stays ∙ cleared-rest c;
-  same-length = s .row .same-length ∙ cleared-length c;
-}
+  pub answer-nowhere : length t ≤ a → FirstRepeated t entry work a
+  answer-nowhere h = record {
+    within = s .within;
+    none-before = s .none-before;
+    repeats = λ k. absurd (omega arith);
+    stays = stays-on c (s .row .stays);
+  }

@@ -1,10 +1,10 @@
--- The walk along the items of a sound table. In order:
+-- The walk along the items of a sound table, as far as the table goes; WalkLaws has the work row too. In order:
 --   good-first     word 0 is the number 0
 --   walked-none, walked-on   no step, and one walk after another
---   item-word, count-word, argument-word   one word further
+--   variable-good, constant-good, pointer-good   a word whose kind was read
+--   variable-item, constant-item, function-word, count-word, argument-word   one word further
 --   argument-more, arguments-end, walked-block   a count and its arguments
---   nowhere, next-item, next-block   the address after an item
---   walked-shaped  the whole table
+--   walked-shaped, walked-names   the whole table
 -- Assumes nothing.
 use mathlib.Core.Path.{_≡_, refl, sym, ap, subst, _∙_}
 use mathlib.Core.Bool.{Bool, true, false, _&&_, not}
@@ -20,10 +20,12 @@ use Rattle.words.specs.declared.kind.Kind.the-variants.{Variable, Constant, Fun
 use Rattle.graphs.proofs.Classes.{never}
 use Rattle.table.specs.Table.{wordAt, kindAt, contentAt}
 use Rattle.table.specs.Layout.{Wanted, item, count, arguments, more, itemKind, countKind, argumentKind, canStand, afterItem, after, atEnd}
-use Rattle.table.specs.Faults.{badKind, badLater, badTarget}
+use Rattle.table.specs.Faults.{badKind, badLater, badTarget, Repeats}
 use Rattle.table.specs.Shaped.{Shaped}
-use Rattle.checker.specs.Sound.{soundCount, argumentTo, soundArgument, Good, Walked, NextItem}
+use Rattle.checker.specs.Names.{variableKind}
+use Rattle.checker.specs.Sound.{soundCount, Good, Walked}
 use Rattle.checker.proofs.LayoutLaws.{break-stands, break-ends}
+use Rattle.checker.proofs.NameLaws.{is-other, repeats-inside}
 
 -- ---- one address
 
@@ -32,15 +34,17 @@ unfolding badLater badTarget kindOf
 good-first t e = record {
   word = ap not (eq-eqb (wordAt t 0) 0 e);
   pointer = ap (λ (w : ℕ). badTarget (kindOf w) (contentAt t 0) t) e;
+  name = λ r. omega (arith, r .before);
 }
 
--- a later word is good if its kind and content are
-good-later : (t : List ℕ) (a : ℕ) (k : Kind) → 0 < a → kindAt t a ≡ k → badKind k (contentAt t a) ≡ false → badTarget k (contentAt t a) t ≡ false → Good t a
+-- a later word is good if its kind, its content and its name are
+good-later : (t : List ℕ) (a : ℕ) (k : Kind) → 0 < a → kindAt t a ≡ k → badKind k (contentAt t a) ≡ false → badTarget k (contentAt t a) t ≡ false → (Repeats t a → ⊥) → Good t a
 unfolding badLater
-good-later t zero k h e w p = absurd (omega arith)
-good-later t (suc a) k h e w p = record {
+good-later t zero k h e w p n = absurd (omega arith)
+good-later t (suc a) k h e w p n = record {
   word = ap (λ (q : Kind). badKind q (contentAt t (suc a))) e ∙ w;
   pointer = ap (λ (q : Kind). badTarget q (contentAt t (suc a)) t) e ∙ p;
+  name = n;
 }
 
 -- what the test of a count read
@@ -82,69 +86,69 @@ one-word t wanted a h e g = record {
   within = omega arith;
 }
 
-module _ (t : List ℕ) (a : ℕ) (later : 0 < a) (inside : a < length t) where
-  pub item-word : (k : Kind) → kindAt t a ≡ k → itemKind k ≡ true → badKind k (contentAt t a) ≡ false → badTarget k (contentAt t a) t ≡ false → Walked t item a (afterItem k) (a + 1)
-  unfolding canStand after
-  item-word k e i w p =
-      subst (λ (q : Kind). Walked t item a (afterItem q) (a + 1)) e
-      (one-word t item a inside (ap itemKind e ∙ i) (good-later t a k later e w p))
+not-bad : (b : Bool) → not b ≡ true → b ≡ false
+not-bad true f = never (cc)
+not-bad false f = refl
 
-  pub variable-item : kindAt t a ≡ Variable → Walked t item a item (a + 1)
+module _ (t : List ℕ) (a : ℕ) (later : 0 < a) where
+  -- a word that is no variable has no name
+  other-good : (k : Kind) → kindAt t a ≡ k → variableKind k ≡ false → badKind k (contentAt t a) ≡ false → badTarget k (contentAt t a) t ≡ false → Good t a
+  other-good k e v w p = good-later t a k later e w p (λ r. is-other (kindAt t a) (ap variableKind e ∙ v) (r .later))
+
+  pub variable-good : kindAt t a ≡ Variable → (Repeats t a → ⊥) → Good t a
   unfolding badKind badTarget
-  variable-item e = item-word Variable e refl refl refl
+  variable-good e new = good-later t a Variable later e refl refl new
 
-  pub constant-item : kindAt t a ≡ Constant → Walked t item a item (a + 1)
+  pub constant-good : kindAt t a ≡ Constant → Good t a
   unfolding badKind badTarget
-  constant-item e = item-word Constant e refl refl refl
+  constant-good e = other-good Constant e refl refl refl
 
-  pub function-word : kindAt t a ≡ Function → Walked t item a count (a + 1)
-  unfolding badKind badTarget
-  function-word e = item-word Function e refl refl refl
+  pub pointer-good : kindAt t a ≡ Pointer → badTarget Pointer (contentAt t a) t ≡ false → Good t a
+  unfolding badKind
+  pointer-good e p = other-good Pointer e refl refl p
 
-  pub count-word : soundCount (wordAt t a) ≡ true → Walked t count a (more (contentAt t a)) (a + 1)
-  unfolding soundCount canStand after badTarget
-  count-word s = go (kindAt t a) refl s
-    where
-      good-count : (b : Bool) → badKind Count (contentAt t a) ≡ b → not b ≡ true → badKind Count (contentAt t a) ≡ false
-      good-count true e f = never (cc)
-      good-count false e f = e
+  module _ (inside : a < length t) where
+    item-word : (k : Kind) → kindAt t a ≡ k → itemKind k ≡ true → Good t a → Walked t item a (afterItem k) (a + 1)
+    unfolding canStand after
+    item-word k e i g =
+        subst (λ (q : Kind). Walked t item a (afterItem q) (a + 1)) e
+        (one-word t item a inside (ap itemKind e ∙ i) g)
 
-      go : (k : Kind) → kindAt t a ≡ k → (countKind k && not (badKind k (contentAt t a))) ≡ true → Walked t count a (more (contentAt t a)) (a + 1)
-      go Variable e f = never (cc)
-      go Constant e f = never (cc)
-      go Function e f = never (cc)
-      go Pointer e f = never (cc)
-      go Count e f = one-word t count a inside (ap countKind e) (good-later t a Count later e (good-count _ refl f) refl)
-      go NoWord e f = never (cc)
+    pub variable-item : kindAt t a ≡ Variable → (Repeats t a → ⊥) → Walked t item a item (a + 1)
+    variable-item e new = item-word Variable e refl (variable-good e new)
 
-  pub argument-word : (j : ℕ) → soundArgument t a ≡ true → Walked t (arguments (suc j)) a (more j) (a + 1)
-  unfolding argumentTo canStand after badKind badTarget
-  argument-word j s = go (kindAt t a) refl s
-    where
-      not-bad : (b : Bool) → not b ≡ true → b ≡ false
-      not-bad true f = never (cc)
-      not-bad false f = refl
+    pub constant-item : kindAt t a ≡ Constant → Walked t item a item (a + 1)
+    constant-item e = item-word Constant e refl (constant-good e)
 
-      step : argumentKind (kindAt t a) ≡ true → Good t a → Walked t (arguments (suc j)) a (more j) (a + 1)
-      step e g = one-word t (arguments (suc j)) a inside e g
+    pub function-word : kindAt t a ≡ Function → Walked t item a count (a + 1)
+    unfolding badKind badTarget
+    function-word e = item-word Function e refl (other-good Function e refl refl refl)
 
-      go : (k : Kind) → kindAt t a ≡ k → argumentTo k (contentAt t a) t ≡ true → Walked t (arguments (suc j)) a (more j) (a + 1)
-      go Variable e f = step (ap argumentKind e) (good-later t a Variable later e refl refl)
-      go Constant e f = step (ap argumentKind e) (good-later t a Constant later e refl refl)
-      go Function e f = never (cc)
-      go Pointer e f = step (ap argumentKind e) (good-later t a Pointer later e refl (not-bad _ f))
-      go Count e f = never (cc)
-      go NoWord e f = never (cc)
+    pub count-word : soundCount (wordAt t a) ≡ true → Walked t count a (more (contentAt t a)) (a + 1)
+    unfolding soundCount canStand after badTarget
+    count-word s = go (kindAt t a) refl s
+      where
+        go : (k : Kind) → kindAt t a ≡ k → (countKind k && not (badKind k (contentAt t a))) ≡ true → Walked t count a (more (contentAt t a)) (a + 1)
+        go Variable e f = never (cc)
+        go Constant e f = never (cc)
+        go Function e f = never (cc)
+        go Pointer e f = never (cc)
+        go Count e f = one-word t count a inside (ap countKind e) (other-good Count e refl (not-bad _ f) refl)
+        go NoWord e f = never (cc)
 
--- ---- the arguments, the block, the item and the table, from what was read
+    pub argument-word : (j : ℕ) → argumentKind (kindAt t a) ≡ true → Good t a → Walked t (arguments (suc j)) a (more j) (a + 1)
+    unfolding canStand after
+    argument-word j e g = one-word t (arguments (suc j)) a inside e g
+
+-- ---- the arguments, the block and the table
 
 -- so many arguments are to come up to `to`, and one less after this one
-pub argument-more : {t : List ℕ} {from to a : ℕ} → Walked t (more (to - from)) from (more (to - a)) a → 0 < from → a < to → to ≤ length t → soundArgument t a ≡ true
+pub argument-more : {t : List ℕ} {from to a : ℕ} → Walked t (more (to - from)) from (more (to - a)) a → 0 < from → a < to → to ≤ length t → argumentKind (kindAt t a) ≡ true → Good t a
     → Walked t (more (to - from)) from (more (to - (a + 1))) (a + 1)
-argument-more {t} {from} {to} {a} w later h inside s =
+argument-more {t} {from} {to} {a} w later h inside e g =
     walked-on w
     (subst (λ (k : ℕ). Walked t (more k) a (more (to - (a + 1))) (a + 1)) (let e : suc (to - (a + 1)) ≡ to - a = omega arith in e)
-    (argument-word t a (omega (arith, w .forth)) (omega arith) (to - (a + 1)) s))
+    (argument-word t a (omega (arith, w .forth)) (omega arith) (to - (a + 1)) e g))
 
 pub arguments-end : {t : List ℕ} {wanted : Wanted} {from to a : ℕ} → Walked t wanted from (more (to - a)) a → a ≤ to → to ≤ a → Walked t wanted from item to
 arguments-end {t} {wanted} {from} {to} {a} w below above =
@@ -157,24 +161,21 @@ walked-block {t} {a} {end} later inside s e w =
     walked-on (count-word t a later inside s)
     (subst (λ (k : ℕ). Walked t (more k) (a + 1) item end) (let q : end - (a + 1) ≡ contentAt t a = omega (arith, e) in q) w)
 
-pub nowhere : {t : List ℕ} {here : Wanted} {a : ℕ} → NextItem t here a 0
-nowhere stopped = absurd (stopped refl)
+-- ---- the whole table
 
-pub next-item : {t : List ℕ} {a : ℕ} → Walked t item a item (a + 1) → NextItem t item a (a + 1)
-next-item w goes = (omega arith, w)
+module _ {t : List ℕ} {b : ℕ} (first : wordAt t 0 ≡ 0) (w : Walked t item 1 item b) (end : length t ≤ b) where
+  all-good : (a : ℕ) → a < length t → Good t a
+  all-good zero h = good-first t first
+  all-good (suc a) h = w .good (suc a) (omega arith) (omega arith)
 
-pub next-block : {t : List ℕ} {a next : ℕ} → Walked t item a count (a + 1) → NextItem t count (a + 1) next → NextItem t item a next
-next-block function block goes = (omega (arith, block goes .0), walked-on function (block goes .1))
+  pub walked-shaped : Shaped t
+  unfolding atEnd
+  walked-shaped = record {
+    some-word = omega (arith, w .forth, w .within);
+    words = λ a h e. let g : Good t a = all-good a h in let f = g .word in never (cc);
+    whole = w .same ∙ break-ends t b item end;
+    pointers = λ a h e. let g : Good t a = all-good a h in let f = g .pointer in never (cc);
+  }
 
-pub walked-shaped : {t : List ℕ} {b : ℕ} → wordAt t 0 ≡ 0 → Walked t item 1 item b → length t ≤ b → Shaped t
-unfolding atEnd
-walked-shaped {t} {b} first w end = record {
-  some-word = omega (arith, w .forth, w .within);
-  words = λ a h e. let g : Good t a = good a h in let f = g .word in never (cc);
-  whole = w .same ∙ break-ends t b item end;
-  pointers = λ a h e. let g : Good t a = good a h in let f = g .pointer in never (cc);
-}
-  where
-    good : (a : ℕ) → a < length t → Good t a
-    good zero h = good-first t first
-    good (suc a) h = w .good (suc a) (omega arith) (omega arith)
+  pub walked-names : (a : ℕ) → Repeats t a → ⊥
+  walked-names a r = all-good a (repeats-inside r) .name r

@@ -1,5 +1,5 @@
--- What the scan for repeated names answers, `FirstRepeated`; and, for its own functions alone, what is known of the chains that
--- it keeps in the work row. Assumes nothing.
+-- What the scan for repeated names answers, `FirstRepeated`; and what is known of the chains that it and the walk along the items
+-- keep in the work row. For this crate alone. Assumes nothing.
 use mathlib.Core.Path.{_≡_}
 use mathlib.Core.Bool.{Bool, true, false}
 use mathlib.Core.List.{List}
@@ -10,13 +10,17 @@ use Rattle.words.specs.declared.kind.Kind.the-variants.{Variable, Constant, Fun
 use Rattle.table.specs.Table.{kindAt, contentAt}
 use Rattle.table.specs.Faults.{Repeats}
 
--- The lowest address that repeats a name, or the table's length; of the work row, the entries after the first 4n stay.
+-- Of the work row, the entries after the first 4n stay; those may be written over.
+pub record RestStays (t entry exit : List ℕ) : Type 0 where
+  pub rest : drop (4 * length t) exit ≡ drop (4 * length t) entry
+  pub same-length : length exit ≡ length entry
+
+-- The lowest address that repeats a name, or the table's length.
 pub record FirstRepeated (t entry exit : List ℕ) (found : ℕ) : Type 0 where
   pub within : found ≤ length t
   pub none-before : (j : ℕ) → j < found → Repeats t j → ⊥
   pub repeats : found < length t → Repeats t found
-  pub rest-stays : drop (4 * length t) exit ≡ drop (4 * length t) entry
-  pub same-length : length exit ≡ length entry
+  pub stays : RestStays t entry exit
 
 abbrev pub variableKind : Kind → Bool
 variableKind Variable = true
@@ -71,8 +75,7 @@ pub record Chained (t work : List ℕ) (a : ℕ) : Type 0 where
 -- .. and the entries after the first 4n are those that were there
 pub record ChainedOn (t entry exit : List ℕ) (a : ℕ) : Type 0 where
   pub chained : Chained t exit a
-  pub rest-stays : drop (4 * length t) exit ≡ drop (4 * length t) entry
-  pub same-length : length exit ≡ length entry
+  pub stays : RestStays t entry exit
 
 -- An address was judged: it repeats a name and the work row stays, or it does not and the chains have it.
 pub record Judged (t entry exit : List ℕ) (a : ℕ) (repeated : Bool) : Type 0 where

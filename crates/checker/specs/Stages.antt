@@ -21,8 +21,11 @@ ByRows rows t answer =
 abbrev pub shapeRows : List Row
 shapeRows = WORD ∷ LAYOUT ∷ POINTER ∷ []
 
+abbrev pub loopRows : List Row
+loopRows = LOOP ∷ []
+
 abbrev pub nameRows : List Row
-nameRows = NAME ∷ LOOP ∷ []
+nameRows = NAME ∷ loopRows
 
 abbrev pub passes : Checked → Bool
 passes Accepted = true

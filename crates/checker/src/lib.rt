@@ -1,7 +1,7 @@
 // The table check: which of the answers 0 to 7 a table gets, and at which place.
 //
 // Each fault has a module of its own, and a scan of the words finds it at its lowest place; those from
-// 3 to 5 are looked for only where one walk (sound) does not show that there is none. The stages come
+// 3 to 6 are looked for only where one walk (sound) does not show that there is none. The stages come
 // in the order of the numbers: what a later one goes by, an earlier one has shown.
 pub mod answer;
 mod faults;

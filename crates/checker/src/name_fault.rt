@@ -28,9 +28,6 @@ const LABELS: usize = 65536;
 // Odd, so that no two labels are spread to one number.
 const SPREAD: usize = 40503;
 
-// The work row has 4n entries: those, and a link for each word.
-const ENTRIES_A_WORD: usize = 4;
-
 fn is_variable(kind: Kind) -> bool
     ensures { λ r. ⌜ r ≡ variableKind kind ⌝ }
 {
@@ -96,6 +93,18 @@ fn put_in_front(table: &[u32], work: &mut [u16], at: usize)
     work[first] = at as u16;
 }
 
+// Whether the variable at an address repeats a name. One that does not joins the chains.
+pub(crate) fn repeats_variable(table: &[u32], work: &mut [u16], at: usize) -> bool
+    requires { ⌜ Chained (now table) (now work) at × (at < length (now table)) × (kindAt (now table) at ≡ Kind.Variable) ⌝ }
+    ensures { λ r. ⌜ Judged (now (table .entry)) (now (work .entry)) (now (work .exit)) at r ⌝ }
+{
+    if stood_earlier(table, work, at) {
+        return true;
+    }
+    put_in_front(table, work, at);
+    false
+}
+
 // Whether the word at an address repeats a name. A variable that does not joins the chains.
 fn repeats_name(table: &[u32], work: &mut [u16], at: usize) -> bool
     requires { ⌜ Chained (now table) (now work) at × (at < length (now table)) ⌝ }
@@ -104,11 +113,15 @@ fn repeats_name(table: &[u32], work: &mut [u16], at: usize) -> bool
     if !is_variable(word::kind(table[at])) {
         return false;
     }
-    if stood_earlier(table, work, at) {
-        return true;
-    }
-    put_in_front(table, work, at);
-    false
+    repeats_variable(table, work, at)
+}
+
+// Every chain becomes empty. A link is written before it is read, so only the beginnings are cleared.
+pub(crate) fn begin_chains(table: &[u32], work: &mut [u16])
+    requires { ⌜ (length (now table) ≤ 4096) × (4 * length (now table) ≤ length (now work)) × (wordAt (now table) 0 ≡ 0) ⌝ }
+    ensures { λ _. ⌜ ChainedOn (now (table .entry)) (now (work .entry)) (now (work .exit)) 1 ⌝ }
+{
+    rows::clear16(work, STARTS_A_WORD * table.len());
 }
 
 // The lowest address of a variable whose label stood earlier, or the table's length where there is
@@ -117,7 +130,7 @@ pub(crate) fn first_repeated_name(table: &[u32], work: &mut [u16]) -> usize
     requires { ⌜ (0 < length (now table)) × (length (now table) ≤ 4096) × (4 * length (now table) ≤ length (now work)) × (wordAt (now table) 0 ≡ 0) ⌝ }
     ensures { λ r. ⌜ FirstRepeated (now (table .entry)) (now (work .entry)) (now (work .exit)) r ⌝ }
 {
-    rows::clear16(work, ENTRIES_A_WORD * table.len());
+    begin_chains(table, work);
     let mut at = 1;
     while at < table.len() {
         if repeats_name(table, work, at) {

@@ -6,12 +6,11 @@ use crate::answer::Checked;
 use crate::layout_fault;
 use crate::layout_fault::RowOfItems;
 use crate::pointer_fault;
-use crate::sound;
 use crate::word_fault;
 use words::numbers::Address;
 
 // The answer by the rows 3, 4 and 5, found by a pass over the table for each.
-fn row_by_row(table: &[u32]) -> Checked
+pub(crate) fn row_by_row(table: &[u32]) -> Checked
     requires { ⌜ length (now table) ≤ 4096 ⌝ }
     ensures { λ r. ⌜ ByRows shapeRows (now (table .entry)) r ⌝ }
 {
@@ -27,16 +26,4 @@ fn row_by_row(table: &[u32]) -> Checked
         return Checked::Pointer(Address(pointer as u16));
     }
     Checked::Accepted
-}
-
-// The answer by the rows 3, 4 and 5: the first that applies, or 0. Only a table that one walk does not
-// show to be sound is gone through row by row, for the number and the place.
-pub(crate) fn shape(table: &[u32]) -> Checked
-    requires { ⌜ length (now table) ≤ 4096 ⌝ }
-    ensures { λ r. ⌜ ByRows shapeRows (now (table .entry)) r ⌝ }
-{
-    if sound::is_sound(table) {
-        return Checked::Accepted;
-    }
-    row_by_row(table)
 }

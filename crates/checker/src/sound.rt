@@ -1,13 +1,13 @@
-// Whether none of the answers 3, 4 and 5 is due, by one walk along the items. Most tables are sound,
+// Whether none of the answers from 3 to 6 is due, by one walk along the items. Most tables are sound,
 // and one walk is all that they take.
 ghost use mathlib.Core.Path.{_≡_};
-ghost use mathlib.Core.Bool.{true};
-ghost use Prim.Native.Nat.{_-_, _<_, _≤_};
+ghost use Prim.Native.Nat.{_*_, _<_, _≤_};
 ghost use lib.ListN.{length};
-ghost use Rattle.table.specs.Layout.{item, count, more};
-ghost use Rattle.table.specs.Shaped.{Shaped};
-ghost use Rattle.checker.specs.Sound.{soundCount, soundArgument, Walked, NextItem};
+ghost use Rattle.table.specs.Layout.{item, count};
+ghost use Rattle.checker.specs.Names.{Chained};
+ghost use Rattle.checker.specs.Sound.{soundCount, AsArgument, AsArguments, NextItem, SoundTable};
 use crate::layout_fault;
+use crate::name_fault;
 use crate::pointer_fault;
 use crate::word_fault;
 use words::kind::Kind;
@@ -26,15 +26,15 @@ fn is_sound_count(word: u32) -> bool
     !word_fault::is_bad_kind(kind, word::content(word))
 }
 
-// Whether the word at an address is a variable, a constant, or a pointer to an address that it may
-// name.
-fn is_sound_argument(table: &[u32], at: usize) -> bool
-    requires { ⌜ at < length (now table) ⌝ }
-    ensures { λ r. ⌜ r ≡ soundArgument (now (table .entry)) at ⌝ }
+// Whether the word at an address is a variable whose label is new, a constant, or a pointer to an
+// address that it may name.
+fn is_sound_argument(table: &[u32], work: &mut [u16], at: usize) -> bool
+    requires { ⌜ Chained (now table) (now work) at × (0 < at) × (at < length (now table)) ⌝ }
+    ensures { λ r. ⌜ AsArgument (now (table .entry)) (now (work .entry)) (now (work .exit)) at r ⌝ }
 {
     let word = table[at];
     match word::kind(word) {
-        Kind::Variable => true,
+        Kind::Variable => !name_fault::repeats_variable(table, work, at),
         Kind::Constant => true,
         Kind::Function => false,
         Kind::Pointer => !pointer_fault::is_bad_target(table, word::address(word)),
@@ -44,13 +44,13 @@ fn is_sound_argument(table: &[u32], at: usize) -> bool
 }
 
 // Whether all words from an address to below another are sound arguments.
-fn are_sound_arguments(table: &[u32], from: usize, to: usize) -> bool
-    requires { ⌜ (0 < from) × (from ≤ to) × (to ≤ length (now table)) ⌝ }
-    ensures { λ r. ⌜ (r ≡ true → Walked (now (table .entry)) (more (to - from)) from item to) ⌝ }
+fn are_sound_arguments(table: &[u32], work: &mut [u16], from: usize, to: usize) -> bool
+    requires { ⌜ Chained (now table) (now work) from × (0 < from) × (from ≤ to) × (to ≤ length (now table)) ⌝ }
+    ensures { λ r. ⌜ AsArguments (now (table .entry)) (now (work .entry)) (now (work .exit)) from to r ⌝ }
 {
     let mut at = from;
     while at < to {
-        if !is_sound_argument(table, at) {
+        if !is_sound_argument(table, work, at) {
             return false;
         }
         at += 1;
@@ -59,9 +59,9 @@ fn are_sound_arguments(table: &[u32], from: usize, to: usize) -> bool
 }
 
 // The address after the block whose count is to stand at an address.
-fn after_block(table: &[u32], at: usize) -> usize
-    requires { ⌜ (0 < at) × (at ≤ length (now table)) ⌝ }
-    ensures { λ r. ⌜ NextItem (now (table .entry)) count at r ⌝ }
+fn after_block(table: &[u32], work: &mut [u16], at: usize) -> usize
+    requires { ⌜ Chained (now table) (now work) at × (0 < at) × (at ≤ length (now table)) ⌝ }
+    ensures { λ r. ⌜ NextItem (now (table .entry)) (now (work .entry)) (now (work .exit)) count at r ⌝ }
 {
     if table.len() <= at {
         return NOWHERE;
@@ -74,40 +74,46 @@ fn after_block(table: &[u32], at: usize) -> usize
     if table.len() < end {
         return NOWHERE;
     }
-    if !are_sound_arguments(table, at + 1, end) {
+    if !are_sound_arguments(table, work, at + 1, end) {
         return NOWHERE;
     }
     end
 }
 
 // The address after the item that is to stand at an address.
-fn after_item(table: &[u32], at: usize) -> usize
-    requires { ⌜ (0 < at) × (at < length (now table)) ⌝ }
-    ensures { λ r. ⌜ NextItem (now (table .entry)) item at r ⌝ }
+fn after_item(table: &[u32], work: &mut [u16], at: usize) -> usize
+    requires { ⌜ Chained (now table) (now work) at × (0 < at) × (at < length (now table)) ⌝ }
+    ensures { λ r. ⌜ NextItem (now (table .entry)) (now (work .entry)) (now (work .exit)) item at r ⌝ }
 {
     match word::kind(table[at]) {
-        Kind::Variable => at + 1,
+        Kind::Variable => {
+            if name_fault::repeats_variable(table, work, at) {
+                NOWHERE
+            } else {
+                at + 1
+            }
+        }
         Kind::Constant => at + 1,
-        Kind::Function => after_block(table, at + 1),
+        Kind::Function => after_block(table, work, at + 1),
         Kind::Pointer => NOWHERE,
         Kind::Count => NOWHERE,
         Kind::NoWord => NOWHERE,
     }
 }
 
-// Whether none of the rows 3, 4 and 5 applies. Of a table that fails nothing is said.
-pub(crate) fn is_sound(table: &[u32]) -> bool
-    ensures { λ r. ⌜ (r ≡ true → Shaped (now (table .entry))) ⌝ }
+// Whether none of the rows from 3 to 6 applies. Of a table that fails nothing is said, and nothing of
+// the first 4n entries of the work row, which are written over.
+pub(crate) fn is_sound(table: &[u32], work: &mut [u16]) -> bool
+    requires { ⌜ (0 < length (now table)) × (length (now table) ≤ 4096) × (4 * length (now table) ≤ length (now work)) ⌝ }
+    ensures { λ r. ⌜ SoundTable (now (table .entry)) (now (work .entry)) (now (work .exit)) r ⌝ }
 {
-    if table.len() == 0 {
-        return false;
-    }
     if table[0] != 0 {
         return false;
     }
+    name_fault::begin_chains(table, work);
     let mut at = 1;
     while at < table.len() {
-        at = after_item(table, at);
+        at = after_item(table, work, at);
         if at == NOWHERE {
             return false;
         }

@@ -1,19 +1,16 @@
--- `checker::faults::faults` meets its contract.
--- Assumes nothing.
-use mathlib.Core.Path.{sym, _∙_}
+-- `checker::faults::faults` meets its contract: what the walk wrote in the work row lies below 4n. Assumes nothing.
 use borrow.Author.Needs.{needs}
-use Rattle.checker.proofs.CheckLaws.{accepted-shaped, shape-refused, shape-passed}
+use Rattle.checker.proofs.CheckLaws.{sound-stage, lent-later}
 use Rattle.checker.proofs.faults.faults.Statement.{statement}
 use Rattle.checker.proofs.faults.faults.Tie as tie
 
-shape-requires : tie.Need-shape-requires
-shape-requires c κs = search needs
+is-sound-requires : tie.Need-is-sound-requires
+is-sound-requires c κs = search needs
 
-is-accepted-requires : tie.Need-is-accepted-requires
-is-accepted-requires c κs = search needs
-
-names-and-loops-requires : tie.Need-names-and-loops-requires
-names-and-loops-requires c κs = (c .before .before .before .before .before .before .before .before .pre, accepted-shaped (c .before .before .before .before .shape .result) (c .before .before .before .before .before .before .before .before .pre .some-word) (sym (c .before .before .before .is-accepted .ensures) ∙ c .before .before .if1 .taken) (c .before .before .before .before .shape .ensures))
+loops-alone-requires : tie.Need-loops-alone-requires
+loops-alone-requires c κs =
+    let walk : tie.After-is-sound = search needs in
+    (search needs, walk .is-sound .ensures .shows (c .before .before .if1 .taken) .0)
 
 same-length : tie.Need-same-length
 same-length c = search needs
@@ -22,19 +19,34 @@ same-length-2 : tie.Need-same-length-2
 same-length-2 c = search needs
 
 returns : tie.Need-returns
-returns c = shape-passed (c .before .before .before .before .before .before .before .before .before .shape .result) (sym (c .before .before .before .before .before .before .before .before .is-accepted .ensures) ∙ c .before .before .before .before .before .before .before .if1 .taken) (c .before .before .before .before .before .before .before .before .before .shape .ensures) (c .before .before .before .before .names-and-loops .ensures)
+returns c =
+    let walk : tie.After-is-sound = search needs in
+    sound-stage (walk .is-sound .ensures) (c .before .before .before .before .before .before .before .if1 .taken) (c .before .before .before .before .loops-alone .ensures)
+
+row-after-row-requires : tie.Need-row-after-row-requires
+row-after-row-requires c κs = search needs
+
+same-length-3 : tie.Need-same-length-3
+same-length-3 c = search needs
+
+same-length-4 : tie.Need-same-length-4
+same-length-4 c = search needs
 
 returns-2 : tie.Need-returns-2
-returns-2 c = shape-refused (sym (c .before .is-accepted .ensures) ∙ c .if1 .left) (c .before .before .shape .ensures)
+returns-2 c =
+    let walk : tie.After-is-sound = search needs in
+    lent-later (walk .is-sound .ensures .stays) (c .before .before .before .before .row-after-row .ensures)
 
 pub faults-spec : {M : Type 1} → statement M
 faults-spec =
     tie.close
     (tie.spec
-    shape-requires
-    is-accepted-requires
-    names-and-loops-requires
+    is-sound-requires
+    loops-alone-requires
     same-length
     same-length-2
     returns
+    row-after-row-requires
+    same-length-3
+    same-length-4
     returns-2)

@@ -1,10 +1,10 @@
 -- `checker::name_fault::first_repeated_name` meets its contract. The loop's invariant:
 -- no address passed repeats a name, and the work row holds the chains of the variables passed. Assumes nothing.
-use Prim.Native.Nat.{_*_, _-_}
+use Prim.Native.Nat.{_-_}
 use native.Mathlib.Omega.{arith}
 use lib.ListN.{length}
 use borrow.Author.Needs.{needs}
-use Rattle.checker.proofs.NameLaws.{NoneYet, Cleared, none-first, none-more, answer-here, answer-nowhere}
+use Rattle.checker.proofs.NameLaws.{NoneYet, none-first, none-more, answer-here, answer-nowhere}
 use Rattle.checker.proofs.name_fault.first_repeated_name.Statement.{statement}
 use Rattle.checker.proofs.name_fault.first_repeated_name.Tie as tie
 
@@ -14,20 +14,13 @@ Inv-loop table work₀ at₀ work at = NoneYet table work₀ work at
 abbrev μ-loop : tie.MeasureT-loop
 μ-loop table work₀ at₀ work at = length table - at
 
--- the row that the loop begins with
-cleared :
-    (c : tie.After-slice-known2 Inv-loop μ-loop) →
-    let p = c .before .before .before .before .before .before in Cleared (4 * length (p .args .table .now)) (p .args .work .now) (c .before .before .clear16 .last .0)
-cleared c = let p : tie.Start Inv-loop μ-loop = search needs in record { fits = p .pre .2; row = c .before .before .clear16 .ensures }
-
-mul-clear16 : tie.Need-mul-clear16 Inv-loop μ-loop
-mul-clear16 c = omega arith
-
-clear16-requires : tie.Need-clear16-requires Inv-loop μ-loop
-clear16-requires c κs = omega arith
+begin-chains-requires : tie.Need-begin-chains-requires Inv-loop μ-loop
+begin-chains-requires c κs =
+    let p : tie.Start Inv-loop μ-loop = search needs in (p .pre .1, p .pre .2, p .pre .3)
 
 loop-holds : tie.Need-loop-holds Inv-loop μ-loop
-loop-holds c = let p : tie.Start Inv-loop μ-loop = search needs in none-first (cleared c) (p .pre .0) (p .pre .1) (p .pre .3)
+loop-holds c =
+    let p : tie.Start Inv-loop μ-loop = search needs in none-first (c .before .before .begin-chains .ensures .chained) (p .pre .0)
 
 repeats-name-requires : tie.Need-repeats-name-requires Inv-loop μ-loop
 repeats-name-requires c κs = (c .before .before .loop .inv .row .chained, c .before .loop-test .taken)
@@ -35,10 +28,10 @@ repeats-name-requires c κs = (c .before .before .loop .inv .row .chained, c .be
 returns : tie.Need-returns Inv-loop μ-loop
 returns c =
     let l : tie.At-loop Inv-loop μ-loop = search needs in
-    answer-here (cleared (l .before)) (l .loop .inv) (c .before .before .before .repeats-name .ensures) (c .if1 .taken)
+    answer-here (l .before .before .before .begin-chains .ensures .stays) (l .loop .inv) (c .before .before .before .repeats-name .ensures) (c .if1 .taken)
 
 same-length : tie.Need-same-length Inv-loop μ-loop
-same-length c = returns c .same-length
+same-length c = returns c .stays .same-length
 
 add-at : tie.Need-add-at Inv-loop μ-loop
 add-at c = omega arith
@@ -52,10 +45,12 @@ loop-again c =
     none-more (l .loop .inv) (c .before .before .before .before .before .loop-test .taken) (c .before .before .before .repeats-name .ensures) (c .if1 .left)
 
 returns-2 : tie.Need-returns-2 Inv-loop μ-loop
-returns-2 c = answer-nowhere (cleared (c .before .before)) (c .before .loop .inv) (c .loop-test .left)
+returns-2 c =
+    let l : tie.At-loop Inv-loop μ-loop = search needs in
+    answer-nowhere (l .before .before .before .begin-chains .ensures .stays) (l .loop .inv) (c .loop-test .left)
 
 same-length-2 : tie.Need-same-length-2 Inv-loop μ-loop
-same-length-2 c = returns-2 c .same-length
+same-length-2 c = returns-2 c .stays .same-length
 
 pub first-repeated-name-spec : {M : Type 1} → statement M
 first-repeated-name-spec =
@@ -63,8 +58,7 @@ first-repeated-name-spec =
     (tie.spec
     Inv-loop
     μ-loop
-    mul-clear16
-    clear16-requires
+    begin-chains-requires
     loop-holds
     repeats-name-requires
     same-length

@@ -1,7 +1,7 @@
--- `checker::name_fault::repeats_name` meets its contract: one law a way out. Assumes nothing.
+-- `checker::name_fault::repeats_name` meets its contract: a word that is no variable repeats none. Assumes nothing.
 use borrow.Author.Tests.{not-true, not-false}
-use Rattle.checker.proofs.NameLaws.{variable-read, judged-other, judged-repeated, judged-new}
 use borrow.Author.Needs.{needs}
+use Rattle.checker.proofs.NameLaws.{variable-read, judged-other}
 use Rattle.checker.proofs.name_fault.repeats_name.Statement.{statement}
 use Rattle.checker.proofs.name_fault.repeats_name.Tie as tie
 
@@ -22,8 +22,8 @@ returns c =
     let p : tie.Start = search needs in
     judged-other (p .pre .0) (c .before .before .kind .ensures) (c .before .is-variable .ensures) (not-true _ (c .if1 .taken))
 
-stood-earlier-requires : tie.Need-stood-earlier-requires
-stood-earlier-requires c κs =
+repeats-variable-requires : tie.Need-repeats-variable-requires
+repeats-variable-requires c κs =
     let p : tie.Start = search needs in (
       p .pre .0,
       p .pre .1,
@@ -34,26 +34,7 @@ same-length : tie.Need-same-length
 same-length c = search needs
 
 returns-2 : tie.Need-returns-2
-returns-2 c =
-    let p : tie.Start = search needs in
-    judged-repeated (p .args .table .now) (p .args .work .now) (p .args .at) (c .before .stood-earlier .ensures) (c .if2 .taken)
-
-put-in-front-requires : tie.Need-put-in-front-requires
-put-in-front-requires c κs =
-    let p : tie.Start = search needs in (
-      p .pre .0,
-      p .pre .1,
-      variable-read (p .args .table .now) (p .args .at) (c .before .before .before .before .before .before .kind .ensures) (c .before .before .before .before .before .is-variable .ensures) (not-false _ (c .before .before .before .before .if1 .left)),
-    )
-
-same-length-2 : tie.Need-same-length-2
-same-length-2 c = search needs
-
-returns-3 : tie.Need-returns-3
-returns-3 c =
-    let p : tie.Start = search needs in
-    judged-new (p .args .table .now) (p .args .work .now) (p .args .at)
-    (c .before .before .before .before .before .stood-earlier .ensures) (c .before .before .before .before .if2 .left) (c .before .before .put-in-front .ensures)
+returns-2 c = search needs
 
 pub repeats-name-spec : {M : Type 1} → statement M
 repeats-name-spec =
@@ -64,9 +45,6 @@ repeats-name-spec =
     kind-requires
     is-variable-requires
     returns
-    stood-earlier-requires
+    repeats-variable-requires
     same-length
-    returns-2
-    put-in-front-requires
-    same-length-2
-    returns-3)
+    returns-2)

@@ -2,13 +2,14 @@
 use mathlib.Core.Path.{sym, _∙_}
 use native.Mathlib.Omega.{arith}
 use borrow.Author.Tests.{not-false}
-use Rattle.checker.proofs.SoundLaws.{nowhere, walked-block}
 use borrow.Author.Needs.{needs}
+use Rattle.checker.proofs.NameLaws.{stays-same}
+use Rattle.checker.proofs.WalkLaws.{nowhere, count-chained, next-arguments}
 use Rattle.checker.proofs.sound.after_block.Statement.{statement}
 use Rattle.checker.proofs.sound.after_block.Tie as tie
 
 returns : tie.Need-returns
-returns c = nowhere
+returns c = nowhere (stays-same _ _)
 
 mul-word : tie.Need-mul-word
 mul-word c = search needs
@@ -20,7 +21,7 @@ is-sound-count-requires : tie.Need-is-sound-count-requires
 is-sound-count-requires c κs = search needs
 
 returns-2 : tie.Need-returns-2
-returns-2 c = nowhere
+returns-2 c = nowhere (stays-same _ _)
 
 add-end : tie.Need-add-end
 add-end c = search needs
@@ -35,24 +36,35 @@ add-end-2 : tie.Need-add-end-2
 add-end-2 c = search needs
 
 returns-3 : tie.Need-returns-3
-returns-3 c = nowhere
+returns-3 c = nowhere (stays-same _ _)
 
 add-are-sound-arguments : tie.Need-add-are-sound-arguments
 add-are-sound-arguments c = search needs
 
 are-sound-arguments-requires : tie.Need-are-sound-arguments-requires
-are-sound-arguments-requires c κs = search needs
+are-sound-arguments-requires c κs =
+    let p : tie.Start = search needs in (
+      count-chained (p .pre .0) (sym (c .before .before .before .before .is-sound-count .ensures) ∙ not-false _ (c .before .before .before .if2 .left)),
+      omega arith,
+      omega arith,
+      omega arith,
+    )
+
+same-length : tie.Need-same-length
+same-length c = search needs
 
 returns-4 : tie.Need-returns-4
-returns-4 c = nowhere
+returns-4 c = nowhere (c .before .before .before .are-sound-arguments .ensures .stays)
+
+same-length-2 : tie.Need-same-length-2
+same-length-2 c = search needs
 
 returns-5 : tie.Need-returns-5
-returns-5 c = let p : tie.Start = search needs in
-    λ goes. (
-      omega arith,
-      walked-block (p .pre .0) (c .before .before .before .before .before .before .before .if1 .left) (sym (c .before .before .before .before .before .is-sound-count .ensures) ∙ not-false _ (c .before .before .before .before .if2 .left)) (omega (arith, c .before .before .before .content .ensures))
-          (c .before .are-sound-arguments .ensures (not-false _ (c .if4 .left))),
-    )
+returns-5 c =
+    let p : tie.Start = search needs in
+    next-arguments (p .args .table .now) (p .args .at) (p .pre .1) (c .before .before .before .before .before .before .before .before .before .before .if1 .left)
+    (sym (c .before .before .before .before .before .before .before .before .is-sound-count .ensures) ∙ not-false _ (c .before .before .before .before .before .before .before .if2 .left)) (omega (arith, c .before .before .before .before .before .before .content .ensures))
+    (c .before .before .before .are-sound-arguments .ensures) (not-false _ (c .if4 .left))
 
 pub after-block-spec : {M : Type 1} → statement M
 after-block-spec =
@@ -70,5 +82,7 @@ after-block-spec =
     returns-3
     add-are-sound-arguments
     are-sound-arguments-requires
+    same-length
     returns-4
+    same-length-2
     returns-5)

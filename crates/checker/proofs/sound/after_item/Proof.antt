@@ -1,7 +1,11 @@
 -- `checker::sound::after_item` meets its contract: one case a kind. Assumes nothing.
-use mathlib.Core.Path.{sym, _∙_}
-use Rattle.checker.proofs.SoundLaws.{nowhere, next-item, next-block, variable-item, constant-item, function-word}
+use mathlib.Core.Path.{sym, ap, _∙_}
+use native.Mathlib.Omega.{arith}
 use borrow.Author.Needs.{needs}
+use Rattle.checker.specs.Names.{variableKind}
+use Rattle.checker.proofs.NameLaws.{is-other, stays-same, chained-pass, judged-stays}
+use Rattle.checker.proofs.SoundLaws.{function-word}
+use Rattle.checker.proofs.WalkLaws.{nowhere, next-variable, next-constant, next-block}
 use Rattle.checker.proofs.sound.after_item.Statement.{statement}
 use Rattle.checker.proofs.sound.after_item.Tie as tie
 
@@ -16,6 +20,10 @@ kind-requires c κs = search needs
 
 enum-told : tie.Need-enum-told
 enum-told c = search needs
+
+repeats-variable-requires : tie.Need-repeats-variable-requires
+repeats-variable-requires c κs =
+    let p : tie.Start = search needs in (p .pre .0, p .pre .2, sym (c .before .before .before .kind .ensures) ∙ c .before .enum-told .given .1)
 
 add-result : tie.Need-add-result
 add-result c = search needs
@@ -33,7 +41,12 @@ add-after-block : tie.Need-add-after-block
 add-after-block c = search needs
 
 after-block-requires : tie.Need-after-block-requires
-after-block-requires c κs = search needs
+after-block-requires c κs =
+    let p : tie.Start = search needs in (
+      chained-pass (p .pre .0) (is-other _ (ap variableKind (sym (c .before .before .before .kind .ensures) ∙ c .before .enum-told3 .given .1))),
+      omega arith,
+      omega arith,
+    )
 
 enum-told-4 : tie.Need-enum-told-4
 enum-told-4 c = search needs
@@ -44,26 +57,41 @@ enum-told-5 c = search needs
 enum-told-6 : tie.Need-enum-told-6
 enum-told-6 c = search needs
 
+same-length : tie.Need-same-length
+same-length c = search needs
+
 returns : tie.Need-returns
-returns c = let p : tie.Start = search needs in
-    next-item (variable-item (p .args .table .now) (p .args .at) (p .pre .0) (p .pre .1) (sym (c .before .before .kind .ensures) ∙ c .enum-told .given .1))
+returns c = nowhere (judged-stays _ (c .before .before .before .repeats-variable .ensures))
+
+same-length-2 : tie.Need-same-length-2
+same-length-2 c = search needs
 
 returns-2 : tie.Need-returns-2
-returns-2 c = let p : tie.Start = search needs in
-    next-item (constant-item (p .args .table .now) (p .args .at) (p .pre .0) (p .pre .1) (sym (c .before .before .kind .ensures) ∙ c .enum-told2 .given .1))
+returns-2 c =
+    let p : tie.Start = search needs in
+    next-variable (p .args .table .now) (p .args .at) (p .pre .1) (p .pre .2) (c .before .before .before .repeats-variable .result) (sym (c .before .before .before .before .before .before .before .kind .ensures) ∙ c .before .before .before .before .before .enum-told .given .1) (c .before .before .before .repeats-variable .ensures) (c .if1 .left)
 
 returns-3 : tie.Need-returns-3
-returns-3 c = let p : tie.Start = search needs in
-    next-block (function-word (p .args .table .now) (p .args .at) (p .pre .0) (p .pre .1) (sym (c .before .before .before .kind .ensures) ∙ c .before .enum-told3 .given .1)) (c .after-block .ensures)
+returns-3 c =
+    let p : tie.Start = search needs in
+    next-constant (p .args .table .now) (p .args .at) (p .pre .1) (p .pre .2) (p .pre .0) (sym (c .before .before .kind .ensures) ∙ c .enum-told2 .given .1)
+
+same-length-3 : tie.Need-same-length-3
+same-length-3 c = search needs
 
 returns-4 : tie.Need-returns-4
-returns-4 c = nowhere
+returns-4 c =
+    let p : tie.Start = search needs in
+    next-block (function-word (p .args .table .now) (p .args .at) (p .pre .1) (p .pre .2) (sym (c .before .before .before .before .before .before .kind .ensures) ∙ c .before .before .before .before .enum-told3 .given .1)) (c .before .before .after-block .ensures)
 
 returns-5 : tie.Need-returns-5
-returns-5 c = nowhere
+returns-5 c = nowhere (stays-same _ _)
 
 returns-6 : tie.Need-returns-6
-returns-6 c = nowhere
+returns-6 c = nowhere (stays-same _ _)
+
+returns-7 : tie.Need-returns-7
+returns-7 c = nowhere (stays-same _ _)
 
 pub after-item-spec : {M : Type 1} → statement M
 after-item-spec =
@@ -73,6 +101,7 @@ after-item-spec =
     shared-slice-read-kind
     kind-requires
     enum-told
+    repeats-variable-requires
     add-result
     enum-told-2
     add-result-2
@@ -82,9 +111,13 @@ after-item-spec =
     enum-told-4
     enum-told-5
     enum-told-6
+    same-length
     returns
+    same-length-2
     returns-2
     returns-3
+    same-length-3
     returns-4
     returns-5
-    returns-6)
+    returns-6
+    returns-7)

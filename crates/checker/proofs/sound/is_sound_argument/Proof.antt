@@ -1,8 +1,9 @@
 -- `checker::sound::is_sound_argument` meets its contract: one case a kind. Assumes nothing.
 use mathlib.Core.Path.{sym, ap, _∙_}
-use mathlib.Core.Bool.{not}
-use Rattle.checker.specs.Sound.{argumentTo}
 use borrow.Author.Needs.{needs}
+use Rattle.table.specs.Faults.{badTarget}
+use Rattle.words.specs.declared.kind.Kind.the-variants.{Pointer}
+use Rattle.checker.proofs.WalkLaws.{variable-argument, constant-argument, pointer-argument, no-argument}
 use Rattle.checker.proofs.sound.is_sound_argument.Statement.{statement}
 use Rattle.checker.proofs.sound.is_sound_argument.Tie as tie
 
@@ -17,6 +18,10 @@ kind-requires c κs = search needs
 
 enum-told : tie.Need-enum-told
 enum-told c = search needs
+
+repeats-variable-requires : tie.Need-repeats-variable-requires
+repeats-variable-requires c κs =
+    let p : tie.Start = search needs in (p .pre .0, p .pre .2, sym (c .before .before .before .kind .ensures) ∙ c .before .enum-told .given .1)
 
 enum-told-2 : tie.Need-enum-told-2
 enum-told-2 c = search needs
@@ -39,29 +44,33 @@ enum-told-5 c = search needs
 enum-told-6 : tie.Need-enum-told-6
 enum-told-6 c = search needs
 
+same-length : tie.Need-same-length
+same-length c = search needs
+
 returns : tie.Need-returns
-unfolding argumentTo
-returns c = rw (sym (c .before .before .kind .ensures) ∙ c .enum-told .given .1)
+returns c =
+    let p : tie.Start = search needs in
+    variable-argument (p .args .table .now) (p .args .at) (p .pre .1) (c .before .before .repeats-variable .result) (sym (c .before .before .before .before .before .before .kind .ensures) ∙ c .before .before .before .before .enum-told .given .1) (c .before .before .repeats-variable .ensures)
 
 returns-2 : tie.Need-returns-2
-unfolding argumentTo
-returns-2 c = rw (sym (c .before .before .kind .ensures) ∙ c .enum-told2 .given .1)
+returns-2 c =
+    let p : tie.Start = search needs in
+    constant-argument (p .args .table .now) (p .args .at) (p .pre .1) (p .pre .0) (sym (c .before .before .kind .ensures) ∙ c .enum-told2 .given .1)
 
 returns-3 : tie.Need-returns-3
-unfolding argumentTo
-returns-3 c = rw (sym (c .before .before .kind .ensures) ∙ c .enum-told3 .given .1)
+returns-3 c = no-argument _ _ _
 
 returns-4 : tie.Need-returns-4
-unfolding argumentTo
-returns-4 c = rw (sym (c .before .before .before .before .kind .ensures) ∙ c .before .before .enum-told4 .given .1, ← (c .before .address .ensures)) (ap not (c .is-bad-target .ensures))
+returns-4 c =
+    let p : tie.Start = search needs in
+    pointer-argument (p .args .table .now) (p .args .at) (p .pre .1) (p .pre .0) (sym (c .before .before .before .before .kind .ensures) ∙ c .before .before .enum-told4 .given .1)
+    (c .is-bad-target .ensures ∙ ap (λ b. badTarget Pointer b (p .args .table .now)) (c .before .address .ensures))
 
 returns-5 : tie.Need-returns-5
-unfolding argumentTo
-returns-5 c = rw (sym (c .before .before .kind .ensures) ∙ c .enum-told5 .given .1)
+returns-5 c = no-argument _ _ _
 
 returns-6 : tie.Need-returns-6
-unfolding argumentTo
-returns-6 c = rw (sym (c .before .before .kind .ensures) ∙ c .enum-told6 .given .1)
+returns-6 c = no-argument _ _ _
 
 pub is-sound-argument-spec : {M : Type 1} → statement M
 is-sound-argument-spec =
@@ -71,6 +80,7 @@ is-sound-argument-spec =
     shared-slice-read-word
     kind-requires
     enum-told
+    repeats-variable-requires
     enum-told-2
     enum-told-3
     enum-told-4
@@ -78,6 +88,7 @@ is-sound-argument-spec =
     is-bad-target-requires
     enum-told-5
     enum-told-6
+    same-length
     returns
     returns-2
     returns-3
