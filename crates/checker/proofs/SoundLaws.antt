@@ -11,7 +11,7 @@ use mathlib.Core.Bool.{Bool, true, false, _&&_, not}
 use mathlib.Core.List.{List}
 use Prim.Native.Nat.{ℕ, zero, suc, _+_, _-_, _≤_, _<_}
 use native.Mathlib.Omega.{arith}
-use borrow.Author.Tests.{eq-eqb, leb-true, leb-false}
+use borrow.Author.Tests.{eq-eqb, leb-true, leb-false, not-true}
 use lib.Dec.{leb}
 use lib.ListN.{length}
 use Rattle.words.specs.Word.{kindOf, contentOf}
@@ -86,10 +86,6 @@ one-word t wanted a h e g = record {
   within = omega arith;
 }
 
-not-bad : (b : Bool) → not b ≡ true → b ≡ false
-not-bad true f = never (cc)
-not-bad false f = refl
-
 module _ (t : List ℕ) (a : ℕ) (later : 0 < a) where
   -- a word that is no variable has no name
   other-good : (k : Kind) → kindAt t a ≡ k → variableKind k ≡ false → badKind k (contentAt t a) ≡ false → badTarget k (contentAt t a) t ≡ false → Good t a
@@ -133,7 +129,7 @@ module _ (t : List ℕ) (a : ℕ) (later : 0 < a) where
         go Constant e f = never (cc)
         go Function e f = never (cc)
         go Pointer e f = never (cc)
-        go Count e f = one-word t count a inside (ap countKind e) (other-good Count e refl (not-bad _ f) refl)
+        go Count e f = one-word t count a inside (ap countKind e) (other-good Count e refl (not-true _ f) refl)
         go NoWord e f = never (cc)
 
     pub argument-word : (j : ℕ) → argumentKind (kindAt t a) ≡ true → Good t a → Walked t (arguments (suc j)) a (more j) (a + 1)

@@ -1,8 +1,8 @@
 -- The walk along the items with the work row, by what each function of it read. In order:
---   variable-argument, other-argument, no-argument   a word looked at as an argument
---   ArgumentsYet   the arguments passed are sound; yet-first, yet-more, all-arguments, not-all-arguments
+--   variable-argument, constant-argument, pointer-argument, no-argument   a word looked at as an argument
+--   ArgumentsYet   the arguments passed are sound; arguments-none, arguments-more, arguments-stop, arguments-all
 --   nowhere, next-variable, next-constant, next-arguments, count-chained, next-block   the address after an item
---   ItemsYet       the items passed are sound; items-first, items-more, sound-table, unsound-table
+--   ItemsYet       the items passed are sound; items-none, items-more, sound-table, unsound-table
 -- Assumes nothing.
 use mathlib.Core.Path.{_≡_, refl, sym, ap, subst, _∙_}
 use mathlib.Core.Bool.{Bool, true, false, _&&_, not, true≢false}
