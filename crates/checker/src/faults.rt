@@ -34,7 +34,7 @@ fn names_and_loops(table: &[u32], class: &mut [u16], work: &mut [u16]) -> Checke
 }
 
 // The answer by the rows from 3 to 7, gone through row after row.
-fn row_after_row(table: &[u32], class: &mut [u16], work: &mut [u16]) -> Checked
+fn through_all_rows(table: &[u32], class: &mut [u16], work: &mut [u16]) -> Checked
     requires { ⌜ Roomy (now table) (now class) (now work) ⌝ }
     ensures { λ r. ⌜ Stage (shapeRows ++ nameRows) (now (table .entry)) (now (class .entry)) (now (work .entry)) r (now (class .exit)) (now (work .exit)) ⌝ }
 {
@@ -55,5 +55,5 @@ pub(crate) fn faults(table: &[u32], class: &mut [u16], work: &mut [u16]) -> Chec
     if sound::is_sound(table, work) {
         return loops_alone(table, class, work);
     }
-    row_after_row(table, class, work)
+    through_all_rows(table, class, work)
 }

@@ -23,8 +23,8 @@ returns c =
     let walk : tie.After-is-sound = search needs in
     sound-stage (walk .is-sound .ensures) (c .before .before .before .before .before .before .before .if1 .taken) (c .before .before .before .before .loops-alone .ensures)
 
-row-after-row-requires : tie.Need-row-after-row-requires
-row-after-row-requires c κs = search needs
+through-all-rows-requires : tie.Need-through-all-rows-requires
+through-all-rows-requires c κs = search needs
 
 same-length-3 : tie.Need-same-length-3
 same-length-3 c = search needs
@@ -35,7 +35,7 @@ same-length-4 c = search needs
 returns-2 : tie.Need-returns-2
 returns-2 c =
     let walk : tie.After-is-sound = search needs in
-    lent-later (walk .is-sound .ensures .stays) (c .before .before .before .before .row-after-row .ensures)
+    lent-later (walk .is-sound .ensures .stays) (c .before .before .before .before .through-all-rows .ensures)
 
 pub faults-spec : {M : Type 1} → statement M
 faults-spec =
@@ -46,7 +46,7 @@ faults-spec =
     same-length
     same-length-2
     returns
-    row-after-row-requires
+    through-all-rows-requires
     same-length-3
     same-length-4
     returns-2)

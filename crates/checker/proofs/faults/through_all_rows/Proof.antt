@@ -1,9 +1,9 @@
--- `checker::faults::row_after_row` meets its contract: the shape rows, and then the others if those pass. Assumes nothing.
+-- `checker::faults::through_all_rows` meets its contract: the shape rows, and then the others if those pass. Assumes nothing.
 use mathlib.Core.Path.{sym, _∙_}
 use borrow.Author.Needs.{needs}
 use Rattle.checker.proofs.CheckLaws.{accepted-shaped, shape-refused, shape-passed}
-use Rattle.checker.proofs.faults.row_after_row.Statement.{statement}
-use Rattle.checker.proofs.faults.row_after_row.Tie as tie
+use Rattle.checker.proofs.faults.through_all_rows.Statement.{statement}
+use Rattle.checker.proofs.faults.through_all_rows.Tie as tie
 
 row-by-row-requires : tie.Need-row-by-row-requires
 row-by-row-requires c κs = search needs
@@ -33,8 +33,8 @@ returns c =
 returns-2 : tie.Need-returns-2
 returns-2 c = shape-refused (sym (c .before .is-accepted .ensures) ∙ c .if1 .left) (c .before .before .row-by-row .ensures)
 
-pub row-after-row-spec : {M : Type 1} → statement M
-row-after-row-spec =
+pub through-all-rows-spec : {M : Type 1} → statement M
+through-all-rows-spec =
     tie.close
     (tie.spec
     row-by-row-requires
