@@ -1,5 +1,5 @@
 # The ways to run things. `make` alone lists them.
-.PHONY: help list host test soak check install fmt clean FORCE
+.PHONY: help list host test edits soak check install fmt clean FORCE
 
 # A proof that fails is not to be hidden by the grep behind it.
 SHELL := /bin/bash -o pipefail
@@ -12,6 +12,7 @@ help:
 	@echo 'make list JOB=examples/two-jobs.job   prove and build the listing program, and list a job file'
 	@echo 'make host                             build the host program in C and run it'
 	@echo 'make test                             the gate: layout, every proof from nothing, the tests'
+	@echo 'make edits CRATE=words                the edits that the prover must refuse, of one crate or of all'
 	@echo 'make soak JOBS=5000000 SEED=1         the station against an independent unifier on so many random jobs'
 	@echo 'make check                            prove every crate that changed since it was last proved'
 	@echo 'make install PREFIX=/usr/local        header, library, pkg-config file, listing program, manual page'
@@ -25,8 +26,9 @@ help:
 target/bin/listing: FORCE
 	@rt check listing 2>&1 | grep -Ev --line-buffered '^(fn|enum|struct|library|logic|linked|axioms|note)' >&2
 
+# Not proved again where nothing that it rests on has changed.
 target/staticlib/libstation.a: FORCE
-	@rt staticlib station >&2
+	@tools/staticlib station >&2
 
 list: target/bin/listing
 	@target/bin/listing <$(JOB)
@@ -40,9 +42,13 @@ host: target/host
 test:
 	.ci/run
 
+# All of them, or those of one crate: must-fail/, which the gate tries too, and edits/, which it has no time for.
+edits:
+	@tools/edits $(CRATE)
+
 # The gate's own comparison, longer and from another seed each time; it prints the seed.
 soak:
-	for library in $$(sed 's/#.*//' tests/staticlibs.txt); do rt staticlib $$library || exit 1; done
+	tools/staticlib $$(sed 's/#.*//' tests/staticlibs.txt)
 	cd tests && STATION_JOBS=$(JOBS) STATION_SEED=$(SEED) cargo test --offline --release --test independent many_random_jobs -- --nocapture
 
 check:
