@@ -1,10 +1,15 @@
 //! docs/TRACE.md taken apart, and the documents that it follows.
 //!
-//! TRACE has a section for each demand (D1 to D3) and for each section of document 01 (S1 on), and in
-//! it a table `| id | sentence | carried by |`. The sentences of a section, put end to end, are the
-//! words of what it follows, every one and in order: that is what makes TRACE complete.
+//! TRACE has a section for each demand (D1 to D3), for each section of document 01 (S1 on) and for each
+//! request of document 02 (E1 on, after E0 for what stands before them), and in it a table
+//! `| id | sentence | carried by |`. The sentences of a section, put end to end, are the words of what it
+//! follows, every one and in order: that is what makes TRACE complete. A request that has not landed has
+//! no table yet, and its section says so.
 
-/// A demand, or a section of document 01: its id, its title and its words in order.
+/// What the section of a request says instead of a table, until the request lands.
+const NOT_LANDED: &str = "Not landed yet.";
+
+/// A demand, a section of document 01 or a request: its id, its title and its words in order.
 #[derive(Debug, PartialEq)]
 pub struct Part {
     pub id: String,
@@ -12,11 +17,12 @@ pub struct Part {
     pub words: Vec<String>,
 }
 
-/// A section of TRACE that follows a part.
+/// A section of TRACE that follows a part. It may say that its request has not landed.
 #[derive(Debug, PartialEq)]
 pub struct Section {
     pub id: String,
     pub title: String,
+    pub not_landed: bool,
     pub rows: Vec<Row>,
 }
 
@@ -33,6 +39,8 @@ pub struct Row {
 pub enum Carried {
     /// By what is named; and whether some of it is still open.
     By(Vec<Reference>, bool),
+    /// By the row of a request, which overrules it.
+    AmendedBy(String),
     /// By nothing yet.
     Open,
     /// There is nothing to carry, for the reason given.
@@ -95,6 +103,35 @@ pub fn law(text: &str) -> Vec<Part> {
     parts
 }
 
+/// The requests of document 02: what stands under its heading, and each paragraph that opens with
+/// `**E1: Title.**`. What stands before the heading is not the document's.
+pub fn requests(text: &str) -> Vec<Part> {
+    let mut parts: Vec<Part> = Vec::new();
+    for line in text.lines() {
+        let opened = line
+            .strip_prefix("**")
+            .and_then(|rest| rest.split_once(".**"));
+        if let Some(title) = line.strip_prefix("# ") {
+            parts.push(Part {
+                id: "E0".to_string(),
+                title: title.trim().to_string(),
+                words: Vec::new(),
+            });
+        } else if let Some(((id, title), rest)) =
+            opened.and_then(|(name, rest)| Some((name.split_once(": ")?, rest)))
+        {
+            parts.push(Part {
+                id: id.to_string(),
+                title: title.to_string(),
+                words: words(rest),
+            });
+        } else if let Some(part) = parts.last_mut() {
+            part.words.extend(words(line));
+        }
+    }
+    parts
+}
+
 /// The words of a line of a document, without the marks that make it a table's row or a list's item.
 /// The bars between a row's cells stay, as words.
 fn words(line: &str) -> Vec<String> {
@@ -111,7 +148,7 @@ fn words(line: &str) -> Vec<String> {
 
 // ---- TRACE
 
-/// The sections of TRACE that have an id: headings `## D1. Title` and `## S1. Title`.
+/// The sections of TRACE that have an id: headings `## D1. Title`, `## S1. Title` and `## E1. Title`.
 pub fn sections(trace: &str) -> Result<Vec<Section>, String> {
     let mut found: Vec<Section> = Vec::new();
     let mut following = false;
@@ -125,10 +162,14 @@ pub fn sections(trace: &str) -> Result<Vec<Section>, String> {
                     found.push(Section {
                         id,
                         title,
+                        not_landed: false,
                         rows: Vec::new(),
                     });
                 }
             }
+        } else if line == NOT_LANDED && following {
+            let section = found.last_mut().expect("a section is being followed");
+            section.not_landed = true;
         } else if line.starts_with('|') && following {
             if words(line).is_empty() || line == "| id | sentence | carried by |" {
                 continue;
@@ -140,10 +181,10 @@ pub fn sections(trace: &str) -> Result<Vec<Section>, String> {
     Ok(found)
 }
 
-/// Whether a heading's first word is the id of a section: D or S and a number.
+/// Whether a heading's first word is the id of a section: D, S or E and a number.
 fn is_id(word: &str) -> bool {
     let mut letters = word.chars();
-    matches!(letters.next(), Some('D' | 'S'))
+    matches!(letters.next(), Some('D' | 'S' | 'E'))
         && word.len() > 1
         && letters.all(|c| c.is_ascii_digit())
 }
@@ -177,6 +218,21 @@ pub fn difference(parts: &[Part], sections: &[Section]) -> Option<String> {
         ));
     }
     for (part, section) in parts.iter().zip(sections) {
+        if section.not_landed {
+            if !is_request(&part.id) {
+                return Some(format!(
+                    "{} is no request, and has to be followed",
+                    section.id
+                ));
+            }
+            if !section.rows.is_empty() {
+                return Some(format!(
+                    "{} has rows and says that it has not landed",
+                    section.id
+                ));
+            }
+            continue;
+        }
         let mut rest = part.words.iter();
         for (i, row) in section.rows.iter().enumerate() {
             let id = format!("{}.{}", section.id, i + 1);
@@ -201,6 +257,11 @@ pub fn difference(parts: &[Part], sections: &[Section]) -> Option<String> {
         }
     }
     None
+}
+
+/// Whether a part is a request, which may wait for its landing.
+fn is_request(id: &str) -> bool {
+    id.starts_with('E') && id != "E0"
 }
 
 /// Whether a row holds the end of one sentence and the start of another. A label such as `P2.` that
@@ -252,6 +313,16 @@ pub fn carried(cell: &str) -> Result<Carried, String> {
             (true, false) => Ok(Carried::NothingToCarry(reason.to_string())),
             (true, true) => Err("no reason is given".to_string()),
             (false, _) => Err("it says nothing to carry, and yet something carries it".to_string()),
+        };
+    }
+    if let Some(row) = plain.strip_prefix("amended by ") {
+        let of_request = row.split_once('.').map_or(false, |(id, number)| {
+            is_id(id) && is_request(id) && number.parse::<u32>().is_ok()
+        });
+        return match (references.is_empty(), of_request) {
+            (true, true) => Ok(Carried::AmendedBy(row.to_string())),
+            (true, false) => Err(format!("'{row}' is not the row of a request")),
+            (false, _) => Err("it is amended, and yet something carries it".to_string()),
         };
     }
     let open = plain == "open" || plain.starts_with("open: ");
@@ -369,6 +440,35 @@ mod tests {
         assert_eq!(told, ["D1 One and more.", "D2 Two."]);
     }
 
+    const REQUESTS: &str = "A line on top.\n\n# Later\n\nEach is one landing.\n\n\
+                            **E1: One thing.** First. Second.\n\n**E2: Another.** Third.\n";
+    const TRACED: &str = "## E0. Later\n\n| E0.1 | Each is one landing. | open |\n\n\
+                          ## E1. One thing\n\n| E1.1 | First. | open |\n| E1.2 | Second. | open |\n\n\
+                          ## E2. Another\n\nNot landed yet.\n";
+
+    fn requests_compared(trace: &str) -> Option<String> {
+        difference(&requests(REQUESTS), &sections(trace).unwrap())
+    }
+
+    #[test]
+    fn a_request_is_followed_or_has_not_landed() {
+        assert_eq!(requests_compared(TRACED), None);
+        let silent = TRACED.replace("Not landed yet.\n", "");
+        assert_eq!(
+            requests_compared(&silent),
+            Some("E2 ends before 'Third.'".into())
+        );
+        let both = format!("{TRACED}\n| E2.1 | Third. | open |\n");
+        assert!(requests_compared(&both).is_some());
+        let less = TRACED.replace("| E1.2 | Second. | open |\n", "");
+        assert_eq!(
+            requests_compared(&less),
+            Some("E1 ends before 'Second.'".into())
+        );
+        let before = TRACED.replace("| E0.1 | Each is one landing. | open |", "Not landed yet.");
+        assert!(requests_compared(&before).is_some());
+    }
+
     #[test]
     fn two_sentences_in_a_row_are_seen() {
         let holds = |text: &str| holds_two(&words(text));
@@ -399,6 +499,8 @@ mod tests {
         );
         let source = Ok(Carried::NothingToCarry("a source".to_string()));
         assert_eq!(carried("says nothing to carry: a source"), source);
+        let amended = Ok(Carried::AmendedBy("E1.3".to_string()));
+        assert_eq!(carried("amended by E1.3"), amended);
     }
 
     #[test]
@@ -415,6 +517,11 @@ mod tests {
             "says nothing to carry",
             "says nothing to carry: ",
             "`a`, says nothing to carry: a source",
+            "amended by E1",
+            "amended by S1.3",
+            "amended by E0.1",
+            "amended by E1.x",
+            "`a`, amended by E1.3",
         ] {
             assert!(carried(cell).is_err(), "{cell}");
         }

@@ -1,7 +1,9 @@
 //! docs/TRACE.md is complete, and names nothing that is not there.
 
 use station_tests::names::declares;
-use station_tests::trace::{carried, demands, difference, holds_two, law, sections, Carried, Row};
+use station_tests::trace::{
+    carried, demands, difference, holds_two, law, requests, sections, Carried, Row,
+};
 use station_tests::{read, repository, text_of};
 
 fn rows() -> Vec<Row> {
@@ -37,6 +39,13 @@ fn every_sentence_is_there() {
     let mut parts = demands(&read("docs/DEMANDS.md"));
     assert_eq!(parts.len(), 3, "docs/DEMANDS.md has three demands");
     parts.extend(law(&read("docs/document-01.md")));
+    let requests = requests(&read("docs/document-02.md"));
+    assert_eq!(
+        requests.len(),
+        13,
+        "docs/document-02.md has twelve requests"
+    );
+    parts.extend(requests);
     let sections = sections(&read("docs/TRACE.md")).unwrap_or_else(|e| panic!("{e}"));
     if let Some(place) = difference(&parts, &sections) {
         panic!("{place}");
@@ -53,13 +62,30 @@ fn a_row_is_one_sentence() {
     assert!(two.is_empty(), "more than one sentence: {two:?}");
 }
 
+/// A sentence that a request overrules is carried by a row of that request, which carries something.
+#[test]
+fn what_amends_is_carried() {
+    let rows = rows();
+    for row in &rows {
+        if let Ok(Carried::AmendedBy(by)) = carried(&row.carried_by) {
+            let found = rows.iter().find(|r| r.id == by);
+            let carries = found.map(|r| carried(&r.carried_by));
+            assert!(
+                matches!(carries, Some(Ok(Carried::By(_, false)))),
+                "{} is amended by {by}, which carries nothing",
+                row.id
+            );
+        }
+    }
+}
+
 #[test]
 fn no_row_is_silent() {
     let (mut whole, mut part, mut open, mut nothing) = (0, 0, 0, 0);
     let mut silent = Vec::new();
     for row in rows() {
         match carried(&row.carried_by) {
-            Ok(Carried::By(_, false)) => whole += 1,
+            Ok(Carried::By(_, false) | Carried::AmendedBy(_)) => whole += 1,
             Ok(Carried::By(_, true)) => part += 1,
             Ok(Carried::Open) => open += 1,
             Ok(Carried::NothingToCarry(_)) => nothing += 1,
