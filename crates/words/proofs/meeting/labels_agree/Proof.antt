@@ -15,7 +15,8 @@ returns c =
     let p : tie.Start = search needs in
     let left : tie.After-label-of = search needs in
     let right : tie.After-label-of2 = search needs in
-    labels-agree-at (p .args .left) (p .args .right) (left .label-of .result) (right .label-of2 .result) (cc) (cc)
+    labels-agree-at (p .args .left) (p .args .right) (left .label-of .result) (right .label-of2 .result)
+    (left .label-of .ensures) (right .label-of2 .ensures)
 
 pub labels-agree-spec : {M : Type 1} → statement M
 labels-agree-spec = tie.close (tie.spec label-of-requires label-of-requires-2 returns)

@@ -1,6 +1,6 @@
--- `words::meeting::meet` meets its contract. Each way out carries out the entry that was found; `cc` takes together which entry it is,
--- that it is the meeting of the two heads, and how the test went. Assumes nothing.
-use mathlib.Core.Path.{refl}
+-- `words::meeting::meet` meets its contract. Each way out carries out the entry that was found: it is the meeting of the two heads, and
+-- the test went as that entry's comparison says. Assumes nothing.
+use mathlib.Core.Path.{refl, sym, _∙_}
 use mathlib.Core.Bool.{true, false}
 use borrow.Author.Needs.{needs}
 use Rattle.words.specs.declared.meeting.Action.the-variants.{Join, JoinIfLabelsAgree, GoDownIfSymbolsAgree, Clash}
@@ -32,32 +32,50 @@ enum-told-4 c = search needs
 returns : tie.Need-returns
 returns c =
     let p : tie.Start = search needs in
-    outcome-by-meeting (p .args .left) (p .args .right) Join _ _ (cc) refl refl
+    let m : tie.After-meeting = search needs in
+    outcome-by-meeting (p .args .left) (p .args .right) Join _ _ (sym (c .enum-told .given .1) ∙ m .meeting .ensures) refl refl
 
 returns-2 : tie.Need-returns-2
 returns-2 c =
     let p : tie.Start = search needs in
-    outcome-by-meeting (p .args .left) (p .args .right) JoinIfLabelsAgree true _ (cc) (cc) refl
+    let m : tie.After-meeting = search needs in
+    let told : tie.After-enum-told2 = search needs in
+    let asked : tie.After-labels-agree = search needs in
+    outcome-by-meeting (p .args .left) (p .args .right) JoinIfLabelsAgree true _
+    (sym (told .enum-told2 .given .1) ∙ m .meeting .ensures) (sym (c .if1 .taken) ∙ asked .labels-agree .ensures) refl
 
 returns-3 : tie.Need-returns-3
 returns-3 c =
     let p : tie.Start = search needs in
-    outcome-by-meeting (p .args .left) (p .args .right) JoinIfLabelsAgree false _ (cc) (cc) refl
+    let m : tie.After-meeting = search needs in
+    let told : tie.After-enum-told2 = search needs in
+    let asked : tie.After-labels-agree = search needs in
+    outcome-by-meeting (p .args .left) (p .args .right) JoinIfLabelsAgree false _
+    (sym (told .enum-told2 .given .1) ∙ m .meeting .ensures) (sym (c .if1 .left) ∙ asked .labels-agree .ensures) refl
 
 returns-4 : tie.Need-returns-4
 returns-4 c =
     let p : tie.Start = search needs in
-    outcome-by-meeting (p .args .left) (p .args .right) GoDownIfSymbolsAgree _ true (cc) refl (cc)
+    let m : tie.After-meeting = search needs in
+    let told : tie.After-enum-told3 = search needs in
+    let asked : tie.After-symbols-agree = search needs in
+    outcome-by-meeting (p .args .left) (p .args .right) GoDownIfSymbolsAgree _ true
+    (sym (told .enum-told3 .given .1) ∙ m .meeting .ensures) refl (sym (c .if2 .taken) ∙ asked .symbols-agree .ensures)
 
 returns-5 : tie.Need-returns-5
 returns-5 c =
     let p : tie.Start = search needs in
-    outcome-by-meeting (p .args .left) (p .args .right) GoDownIfSymbolsAgree _ false (cc) refl (cc)
+    let m : tie.After-meeting = search needs in
+    let told : tie.After-enum-told3 = search needs in
+    let asked : tie.After-symbols-agree = search needs in
+    outcome-by-meeting (p .args .left) (p .args .right) GoDownIfSymbolsAgree _ false
+    (sym (told .enum-told3 .given .1) ∙ m .meeting .ensures) refl (sym (c .if2 .left) ∙ asked .symbols-agree .ensures)
 
 returns-6 : tie.Need-returns-6
 returns-6 c =
     let p : tie.Start = search needs in
-    outcome-by-meeting (p .args .left) (p .args .right) Clash _ _ (cc) refl refl
+    let m : tie.After-meeting = search needs in
+    outcome-by-meeting (p .args .left) (p .args .right) Clash _ _ (sym (c .enum-told4 .given .1) ∙ m .meeting .ensures) refl refl
 
 pub meet-spec : {M : Type 1} → statement M
 meet-spec =
