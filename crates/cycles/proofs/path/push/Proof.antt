@@ -1,4 +1,8 @@
 -- `cycles::path::push` meets its contract: two stores, one after the other. Assumes nothing.
+use mathlib.Core.Path.{ap, _∙_}
+use mathlib.Core.List.{List}
+use Prim.Native.Nat.{ℕ, _+_}
+use lib.ListN.{set}
 use borrow.Author.Needs.{needs}
 use Rattle.cycles.proofs.path.push.Statement.{statement}
 use Rattle.cycles.proofs.path.push.Tie as tie
@@ -16,7 +20,11 @@ same-length : tie.Need-same-length
 same-length c = search needs
 
 returns : tie.Need-returns
-returns c = cc
+returns c =
+    let p : tie.Start = search needs in
+    let first : tie.After-put = search needs in
+    let second : tie.After-put2 = search needs in
+    second .put2 .ensures ∙ ap (λ (row : List ℕ). set row (p .args .n + p .args .depth) (p .args .x)) (first .put .ensures)
 
 pub push-spec : {M : Type 1} → statement M
 push-spec = tie.close (tie.spec put-requires add-put put-requires-2 same-length returns)

@@ -1,5 +1,8 @@
 -- `cycles::reads::next` meets its contract: it reads the class row at the child. Assumes nothing.
+use mathlib.Core.Path.{ap, _∙_}
+use Prim.Native.Nat.{ℕ}
 use borrow.Author.Needs.{needs}
+use Rattle.graphs.specs.Partition.{entry}
 use Rattle.cycles.proofs.reads.next.Statement.{statement}
 use Rattle.cycles.proofs.reads.next.Tie as tie
 
@@ -19,7 +22,11 @@ at-requires : tie.Need-at-requires
 at-requires c κs = search needs
 
 returns : tie.Need-returns
-returns c = cc
+returns c =
+    let p : tie.Start = search needs in
+    let asked : tie.After-child = search needs in
+    let read : tie.After-at = search needs in
+    read .at .ensures ∙ ap (λ (x : ℕ). entry (p .args .class .now) x) (asked .child .ensures)
 
 pub next-spec : {M : Type 1} → statement M
 next-spec = tie.close (tie.spec cast-t6 cast-child child-requires cast-at at-requires returns)
