@@ -1,12 +1,9 @@
 -- Laws of the scans, the stages of the check, and the whole.
 pub mod ChainLaws
 pub mod CheckLaws
-pub mod LayoutLaws
 pub mod LoopLaws
 pub mod NameLaws
 pub mod OneCheck
-pub mod Search
 pub mod SoundLaws
 pub mod Stages
 pub mod WalkLaws
-pub mod WordLaws

@@ -24,7 +24,7 @@ use Rattle.table.specs.Faults.{badKind, badLater, badTarget, Repeats}
 use Rattle.table.specs.Shaped.{Shaped}
 use Rattle.checker.specs.Names.{variableKind}
 use Rattle.checker.specs.Sound.{soundCount, Good, Walked}
-use Rattle.checker.proofs.LayoutLaws.{break-stands, break-ends}
+use Rattle.shape.proofs.LayoutLaws.{break-stands, break-ends}
 use Rattle.checker.proofs.NameLaws.{is-other, repeats-inside}
 
 -- ---- one address

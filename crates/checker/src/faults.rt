@@ -6,7 +6,7 @@ use crate::answer;
 use crate::answer::Checked;
 use crate::loops;
 use crate::name_fault;
-use crate::shape;
+use crate::shape_fault;
 use crate::sound;
 use words::numbers::Address;
 
@@ -38,7 +38,7 @@ fn through_all_rows(table: &[u32], class: &mut [u16], work: &mut [u16]) -> Check
     requires { ⌜ Roomy (now table) (now class) (now work) ⌝ }
     ensures { λ r. ⌜ Stage (shapeRows ++ nameRows) (now (table .entry)) (now (class .entry)) (now (work .entry)) r (now (class .exit)) (now (work .exit)) ⌝ }
 {
-    let shape = shape::row_by_row(table);
+    let shape = shape_fault::row_by_row(table);
     if answer::is_accepted(shape) {
         return names_and_loops(table, class, work);
     }

@@ -1,17 +1,15 @@
 // The table check: which of the answers 0 to 7 a table gets, and at which place.
 //
-// Each fault has a module of its own, and a scan of the words finds it at its lowest place; those from
-// 3 to 6 are looked for only where one walk (sound) does not show that there is none. The stages come
-// in the order of the numbers: what a later one goes by, an earlier one has shown.
+// Each fault has a module of its own, those from 3 to 5 in the crate shape, and a scan of the words
+// finds it at its lowest place; those from 3 to 6 are looked for only where one walk (sound) does not
+// show that there is none. The stages come in the order of the numbers: what a later one goes by, an
+// earlier one has shown.
 pub mod answer;
 mod faults;
-mod layout_fault;
 mod loops;
 mod name_fault;
-mod pointer_fault;
-mod shape;
+mod shape_fault;
 mod sound;
-mod word_fault;
 
 ghost use Rattle.checker.specs.Check.{CheckOf};
 use answer::Checked;

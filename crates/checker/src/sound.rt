@@ -6,10 +6,10 @@ ghost use lib.ListN.{length};
 ghost use Rattle.table.specs.Layout.{item, count};
 ghost use Rattle.checker.specs.Names.{Chained};
 ghost use Rattle.checker.specs.Sound.{soundCount, AsArgument, AsArguments, NextItem, SoundTable};
-use crate::layout_fault;
 use crate::name_fault;
-use crate::pointer_fault;
-use crate::word_fault;
+use shape::layout_fault;
+use shape::pointer_fault;
+use shape::word_fault;
 use words::kind::Kind;
 use words::word;
 

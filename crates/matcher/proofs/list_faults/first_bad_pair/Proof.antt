@@ -4,7 +4,7 @@ use native.Mathlib.Omega.{arith}
 use borrow.Author.Needs.{needs}
 use lib.ListN.{length}
 use Rattle.table.specs.Faults.{pairsOf, pairAt, badSides}
-use Rattle.checker.proofs.Search.{Passed, passed-none, passed-more, found-here, found-nowhere}
+use Rattle.shape.proofs.Search.{Passed, passed-none, passed-more, found-here, found-nowhere}
 use Rattle.matcher.proofs.ListLaws.{half-entries}
 use Rattle.matcher.proofs.list_faults.first_bad_pair.Statement.{statement}
 use Rattle.matcher.proofs.list_faults.first_bad_pair.Tie as tie

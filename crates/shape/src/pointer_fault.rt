@@ -1,0 +1,67 @@
+// Answer 5, POINTER: "it names 0, an address of n or more, a pointer or a count".
+ghost use mathlib.Core.Path.{_≡_};
+ghost use Prim.Native.Nat.{_<_};
+ghost use lib.ListN.{length};
+ghost use Rattle.words.specs.declared.kind.Kind.{Kind};
+ghost use Rattle.table.specs.Answers.{First};
+ghost use Rattle.table.specs.Faults.{pointerOrCount, badTarget, badPointer};
+use words::kind::Kind;
+use words::numbers::Address;
+use words::word;
+
+fn is_pointer_or_count(kind: Kind) -> bool
+    ensures { λ r. ⌜ r ≡ pointerOrCount kind ⌝ }
+{
+    match kind {
+        Kind::Variable => false,
+        Kind::Constant => false,
+        Kind::Function => false,
+        Kind::Pointer => true,
+        Kind::Count => true,
+        Kind::NoWord => false,
+    }
+}
+
+// Whether a pointer may not name this address.
+pub fn is_bad_target(table: &[u32], target: Address) -> bool
+    ensures { λ r. ⌜ r ≡ badTarget Kind.Pointer (target .0) (now (table .entry)) ⌝ }
+{
+    let at = target.0 as usize;
+    if at == 0 {
+        return true;
+    }
+    if table.len() <= at {
+        return true;
+    }
+    is_pointer_or_count(word::kind(table[at]))
+}
+
+// Whether the word at an address is a bad pointer.
+fn is_bad_pointer(table: &[u32], at: usize) -> bool
+    requires { ⌜ at < length (now table) ⌝ }
+    ensures { λ r. ⌜ r ≡ badPointer (now (table .entry)) at ⌝ }
+{
+    let word = table[at];
+    match word::kind(word) {
+        Kind::Variable => false,
+        Kind::Constant => false,
+        Kind::Function => false,
+        Kind::Pointer => is_bad_target(table, word::address(word)),
+        Kind::Count => false,
+        Kind::NoWord => false,
+    }
+}
+
+// The lowest address of a bad pointer, or the table's length where there is none.
+pub fn first_bad_pointer(table: &[u32]) -> usize
+    ensures { λ r. ⌜ First (badPointer (now (table .entry))) (length (now (table .entry))) r ⌝ }
+{
+    let mut at = 0;
+    while at < table.len() {
+        if is_bad_pointer(table, at) {
+            return at;
+        }
+        at += 1;
+    }
+    at
+}
