@@ -21,7 +21,8 @@ use Rattle.checker.specs.declared.answer.Checked.the-variants.{Accepted,
 use Rattle.checker.specs.Check.{numberOf, placeOf, zeroed, left, jobOf, CheckOf}
 use Rattle.checker.specs.Names.{RestStays, FirstRepeated}
 use Rattle.checker.specs.Sound.{SoundTable}
-use Rattle.checker.specs.Stages.{ByRows, shapeRows, nameRows, loopRows, passes, Roomy, Stage, Loops, LoopSearch}
+use Rattle.checker.specs.Stages.{ByRows, shapeRows, nameRows, loopRows, passes, Roomy, Stage}
+use Rattle.checker.proofs.LoopLaws.{Loops, LoopSearch}
 use Rattle.checker.proofs.NameLaws.{repeats-inside}
 use Rattle.checker.proofs.Stages.{shaped-accepted}
 

@@ -1,7 +1,7 @@
 -- The search for cycles, with each node its own class, finds the loops of a table.
 --
--- In order: the row of own classes; it can be searched (`own-searchable`); ways of its net are children (`way-child`,
--- `child-way`), so what the search says is true of the table (`loops-found`); with what is kept, `loop-search`.
+-- In order: what the search finds (`LoopSearch`); the row of own classes; it can be searched (`own-searchable`); ways of its net are
+-- children (`way-child`, `child-way`), so what the search says is true of the table (`loops-found`); with what is kept, `loop-search`.
 -- Assumes nothing.
 use mathlib.Core.Path.{_≡_, refl, sym, ap, _∙_, subst}
 use mathlib.Core.Bool.{Bool, true, false}
@@ -10,7 +10,7 @@ use Prim.Native.Nat.{ℕ, zero, suc, _+_, _*_, _≤_, _<_}
 use native.Mathlib.Omega.{arith}
 use lib.ListN.{length, getD, drop, length-append, List·getD-append}
 use Rattle.rows.proofs.Laws.{behind-stays, behind-cleared}
-use Rattle.graphs.specs.Graph.{Child}
+use Rattle.graphs.specs.Graph.{Child, Steps}
 use Rattle.graphs.specs.Partition.{entry}
 use Rattle.graphs.proofs.Finite.{steps-map}
 use Rattle.table.specs.Table.{nodeKind, graphOf, degree, childOf}
@@ -18,7 +18,17 @@ use Rattle.table.proofs.Children.{NamedChild, named-child, child-degree, degree
 use Rattle.table.specs.Shaped.{Shaped}
 use Rattle.table.proofs.Shape.{inside-kind, shaped-laid, shaped-degree, shaped-child}
 use Rattle.cycles.specs.Net.{Way, netOf, Returns, Searchable, Searched}
-use Rattle.checker.specs.Stages.{counting, Roomy, Loops, LoopSearch}
+use Rattle.checker.specs.Stages.{counting, Roomy, Kept}
+
+-- some node reaches itself, or none does
+abbrev pub Loops : Bool → List ℕ → Type 0
+Loops true t = (x : ℕ) × Steps (Child (graphOf t)) x x
+Loops false t = (x : ℕ) → Steps (Child (graphOf t)) x x → ⊥
+
+-- what the search for loops finds, and what it keeps
+pub record LoopSearch (t class work : List ℕ) (found : Bool) (class-after work-after : List ℕ) : Type 0 where
+  pub truth : Loops found t
+  pub kept : Kept t class work class-after work-after
 
 -- ---- the row of own classes
 

@@ -4,8 +4,6 @@ use mathlib.Core.Bool.{Bool, true, false}
 use mathlib.Core.List.{List, [], _∷_}
 use Prim.Native.Nat.{ℕ, zero, suc, _*_, _≤_, _<_}
 use lib.ListN.{length, drop}
-use Rattle.graphs.specs.Graph.{Child, Steps}
-use Rattle.table.specs.Table.{graphOf}
 use Rattle.table.specs.Answers.{Answered}
 use Rattle.table.specs.Faults.{Row, WORD, LAYOUT, POINTER, NAME, LOOP, Fault, number}
 use Rattle.checker.specs.declared.answer.Checked.{Checked}
@@ -57,14 +55,4 @@ pub record Kept (t class work class-after work-after : List ℕ) : Type 0 where
 -- what a stage answers by its rows, and what it keeps
 pub record Stage (rows : List Row) (t class work : List ℕ) (answer : Checked) (class-after work-after : List ℕ) : Type 0 where
   pub answered : ByRows rows t answer
-  pub kept : Kept t class work class-after work-after
-
--- some node reaches itself, or none does
-abbrev pub Loops : Bool → List ℕ → Type 0
-Loops true t = (x : ℕ) × Steps (Child (graphOf t)) x x
-Loops false t = (x : ℕ) → Steps (Child (graphOf t)) x x → ⊥
-
--- what the search for loops finds, and what it keeps
-pub record LoopSearch (t class work : List ℕ) (found : Bool) (class-after work-after : List ℕ) : Type 0 where
-  pub truth : Loops found t
   pub kept : Kept t class work class-after work-after

@@ -1,7 +1,6 @@
 // The answers from 3 on, for a table of an allowed size with room for it.
 ghost use mathlib.Core.List.{_++_};
-ghost use Rattle.table.specs.Shaped.{Shaped};
-ghost use Rattle.checker.specs.Stages.{shapeRows, nameRows, loopRows, Roomy, Stage};
+ghost use Rattle.checker.specs.Stages.{shapeRows, nameRows, Roomy, Stage};
 use crate::answer;
 use crate::answer::Checked;
 use crate::loops;
@@ -10,39 +9,20 @@ use crate::shape_fault;
 use crate::sound;
 use words::numbers::Address;
 
-// The answer by row 7, for a table whose shape is sound.
-fn loops_alone(table: &[u32], class: &mut [u16], work: &mut [u16]) -> Checked
-    requires { ⌜ Roomy (now table) (now class) (now work) × Shaped (now table) ⌝ }
-    ensures { λ r. ⌜ Stage loopRows (now (table .entry)) (now (class .entry)) (now (work .entry)) r (now (class .exit)) (now (work .exit)) ⌝ }
-{
-    if loops::has_loop(table, class, work) {
-        return Checked::Loop;
-    }
-    Checked::Accepted
-}
-
-// The answer by the rows 6 and 7, for a table whose shape is sound.
-fn names_and_loops(table: &[u32], class: &mut [u16], work: &mut [u16]) -> Checked
-    requires { ⌜ Roomy (now table) (now class) (now work) × Shaped (now table) ⌝ }
-    ensures { λ r. ⌜ Stage nameRows (now (table .entry)) (now (class .entry)) (now (work .entry)) r (now (class .exit)) (now (work .exit)) ⌝ }
-{
-    let name = name_fault::first_repeated_name(table, work);
-    if name < table.len() {
-        return Checked::Name(Address(name as u16));
-    }
-    loops_alone(table, class, work)
-}
-
 // The answer by the rows from 3 to 7, gone through row after row.
 fn through_all_rows(table: &[u32], class: &mut [u16], work: &mut [u16]) -> Checked
     requires { ⌜ Roomy (now table) (now class) (now work) ⌝ }
     ensures { λ r. ⌜ Stage (shapeRows ++ nameRows) (now (table .entry)) (now (class .entry)) (now (work .entry)) r (now (class .exit)) (now (work .exit)) ⌝ }
 {
     let shape = shape_fault::row_by_row(table);
-    if answer::is_accepted(shape) {
-        return names_and_loops(table, class, work);
+    if !answer::is_accepted(shape) {
+        return shape;
     }
-    shape
+    let name = name_fault::first_repeated_name(table, work);
+    if name < table.len() {
+        return Checked::Name(Address(name as u16));
+    }
+    loops::loops_alone(table, class, work)
 }
 
 // The answer by the rows from 3 to 7. Only a table that one walk does not show to be sound is gone
@@ -53,7 +33,7 @@ pub(crate) fn faults(table: &[u32], class: &mut [u16], work: &mut [u16]) -> Chec
     ensures { λ r. ⌜ Stage (shapeRows ++ nameRows) (now (table .entry)) (now (class .entry)) (now (work .entry)) r (now (class .exit)) (now (work .exit)) ⌝ }
 {
     if sound::is_sound(table, work) {
-        return loops_alone(table, class, work);
+        return loops::loops_alone(table, class, work);
     }
     through_all_rows(table, class, work)
 }

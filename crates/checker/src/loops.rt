@@ -4,7 +4,8 @@ ghost use mathlib.Core.List.{_++_};
 ghost use Prim.Native.Nat.{_≤_};
 ghost use lib.ListN.{length, drop};
 ghost use Rattle.table.specs.Shaped.{Shaped};
-ghost use Rattle.checker.specs.Stages.{counting, Roomy, LoopSearch};
+ghost use Rattle.checker.specs.Stages.{loopRows, counting, Roomy, Stage};
+use crate::answer::Checked;
 
 // Each of the first n addresses becomes its own class.
 fn own_classes(class: &mut [u16], n: usize)
@@ -18,11 +19,14 @@ fn own_classes(class: &mut [u16], n: usize)
     }
 }
 
-// Whether some node reaches itself through children.
-pub(crate) fn has_loop(table: &[u32], class: &mut [u16], work: &mut [u16]) -> bool
+// The answer by row 7, for a table whose shape is sound.
+pub(crate) fn loops_alone(table: &[u32], class: &mut [u16], work: &mut [u16]) -> Checked
     requires { ⌜ Roomy (now table) (now class) (now work) × Shaped (now table) ⌝ }
-    ensures { λ r. ⌜ LoopSearch (now (table .entry)) (now (class .entry)) (now (work .entry)) r (now (class .exit)) (now (work .exit)) ⌝ }
+    ensures { λ r. ⌜ Stage loopRows (now (table .entry)) (now (class .entry)) (now (work .entry)) r (now (class .exit)) (now (work .exit)) ⌝ }
 {
     own_classes(class, table.len());
-    cycles::reaches_itself(table, class, work)
+    if cycles::reaches_itself(table, class, work) {
+        return Checked::Loop;
+    }
+    Checked::Accepted
 }
