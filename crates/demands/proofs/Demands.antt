@@ -32,7 +32,7 @@ use Rattle.jobfile.specs.File.{countIn, GoodFile}
 use Rattle.jobfile.specs.Jobs.{FileJob, sizesOf, bodiesOf, fileOfJobs, Holdable, jobsIn}
 use Rattle.jobfile.specs.Reader.{ReadOf, BodiesOf, numberOf as readNumber, placeOf as readPlace}
 use Rattle.jobfile.specs.Writer.{WriteOf, numberOf as writeNumber, placeOf as writePlace}
-use Rattle.station.specs.Host.{HostOf, HostFault, hostOrder, entryOf, wordsOf, tableOf, listOf, reportOf, writesNothing, number as hostNumber}
+use Rattle.host.specs.Host.{HostOf, HostFault, hostOrder, entryOf, wordsOf, tableOf, listOf, reportOf, writesNothing, number as hostNumber}
 use Rattle.demands.specs.HostPasses.{HostPasses}
 use Rattle.checker.proofs.OneCheck.{check-only}
 use Rattle.matcher.proofs.OneMatch.{match-only}

@@ -29,7 +29,7 @@ use Rattle.matcher.proofs.Demands.{accepted-exactly, answer-makes-equal, answer
 use Rattle.jobfile.specs.File.{bodyIn}
 use Rattle.jobfile.specs.Faults.{number as fileNumber}
 use Rattle.jobfile.proofs.NumberLaws.{length-rowIn}
-use Rattle.station.specs.Host.{entryOf, wordsOf, tableOf, listOf, jobOf, Row, of-match, number, HostFault, match-fault, earlyOrder, hostOrder, HostOf}
+use Rattle.host.specs.Host.{entryOf, wordsOf, tableOf, listOf, jobOf, Row, of-match, number, HostFault, match-fault, earlyOrder, hostOrder, HostOf}
 use Rattle.demands.specs.HostPasses.{HostPasses}
 use Rattle.demands.proofs.Buffers.{cleared-late}
 

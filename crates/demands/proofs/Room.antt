@@ -18,8 +18,8 @@ use Rattle.matcher.proofs.Verdicts.{at-most}
 use Rattle.jobfile.specs.File.{bodyIn}
 use Rattle.jobfile.specs.Faults.{number as fileNumber}
 use Rattle.jobfile.proofs.NumberLaws.{length-bytesOfRow, length-rowIn}
-use Rattle.station.specs.Host.{entryOf, wordsOf, tableOf, listOf, Row, number, HostFault, room-fault, hostOrder, reportOf, writesNothing, roomAfter, HostOf}
-use Rattle.station.proofs.ChoiceLaws.{host-positive}
+use Rattle.host.specs.Host.{entryOf, wordsOf, tableOf, listOf, Row, number, HostFault, room-fault, hostOrder, reportOf, writesNothing, roomAfter, HostOf}
+use Rattle.host.proofs.ChoiceLaws.{host-positive}
 use Rattle.demands.proofs.Lengths.{front-length}
 
 length-report : (a p j : ℕ) (classes : List ℕ) → length (reportOf a p j classes) ≡ 6 + 2 * length classes

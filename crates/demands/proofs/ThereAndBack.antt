@@ -17,7 +17,7 @@ use Rattle.jobfile.specs.declared.answers.WriteAnswer.{WriteAnswer}
 use Rattle.jobfile.specs.declared.answers.WriteAnswer.the-variants.{Written}
 use Rattle.jobfile.specs.declared.sizes.Sizes.{Sizes}
 use Rattle.jobfile.proofs.Theorems.{jobs-written, jobs-read-back, job-body}
-use Rattle.station.specs.Host.{entryOf, tableOf, listOf}
+use Rattle.host.specs.Host.{entryOf, tableOf, listOf}
 
 module _ {jobs : List FileJob} {room after : List ℕ} {written : WriteAnswer} {answer : FileAnswer} {sizes : Sizes} (holdable : Holdable jobs) (enough : length (fileOfJobs jobs) ≤ length room) (w : WriteOf (sizesOf jobs) (bodiesOf jobs) room written after) (r : ReadOf (take (length (fileOfJobs jobs)) after) answer sizes) where
   -- the bytes in front are the file

@@ -2,7 +2,7 @@
 use mathlib.Core.Path.{_≡_}
 use mathlib.Core.List.{List}
 use Prim.Native.Nat.{ℕ}
-use Rattle.station.specs.Host.{Row, number, HostFault}
+use Rattle.host.specs.Host.{Row, number, HostFault}
 
 -- "For a table, list and buffers that pass all checks": of the rows of the host call none applies but, it may be, 10 and 11.
 abbrev pub HostPasses : List ℕ → ℕ → List ℕ → Type 0

@@ -1,6 +1,2 @@
--- The entries' contracts allow one result each: Theorems. The others are the laws that the stages of the host call cite.
+-- The entries' contracts allow one result each.
 pub mod Theorems
-pub mod ReportLaws
-pub mod ChoiceLaws
-pub mod CutLaws
-pub mod JobLaws

@@ -16,9 +16,10 @@ use Rattle.matcher.specs.declared.answer.Matched.{Matched}
 use Rattle.matcher.proofs.OneMatch.{match-only}
 use Rattle.jobfile.specs.Writer.{numberOf as writeNumber}
 use Rattle.jobfile.proofs.WriteAnswers.{write-only}
-use Rattle.station.specs.Entries.{asOne, LentOf, CheckedOf, WrittenOf}
-use Rattle.station.specs.Host.{tableOf, number, HostFault, hostOrder, reportOf, roomAfter, HostOf}
-use Rattle.station.proofs.ChoiceLaws.{host-once}
+use Rattle.host.specs.AsOne.{asOne}
+use Rattle.host.specs.Host.{tableOf, number, HostFault, hostOrder, reportOf, roomAfter, HostOf}
+use Rattle.host.proofs.ChoiceLaws.{host-once}
+use Rattle.station.specs.Entries.{LentOf, CheckedOf, WrittenOf}
 
 module _ {bytes : List ℕ} {job : ℕ} {room : List ℕ} {r s : ℕ} {room₁ room₂ : List ℕ} (a : HostOf bytes job room r room₁) (b : HostOf bytes job room s room₂) where
   same-numbers : (r ≡ s) × (a .place ≡ b .place)

@@ -2,17 +2,14 @@
 -- Assumes nothing.
 use mathlib.Core.Path.{_≡_}
 use mathlib.Core.List.{List}
-use Prim.Native.Nat.{ℕ, _+_, _*_}
+use Prim.Native.Nat.{ℕ}
 use Rattle.checker.specs.Check.{CheckOf, numberOf as checkNumber, placeOf as checkPlace, joinsOf as checkJoins}
 use Rattle.checker.specs.declared.answer.Checked.{Checked}
 use Rattle.matcher.specs.Match.{MatchOf, numberOf, placeOf, joinsOf}
 use Rattle.matcher.specs.declared.answer.Matched.{Matched}
 use Rattle.jobfile.specs.Writer.{WriteOf, numberOf as writeNumber}
 use Rattle.jobfile.specs.declared.answers.WriteAnswer.{WriteAnswer}
-
--- answer, place and joins, 16 bits each from the low end; the top 16 bits are 0
-abbrev pub asOne : ℕ → ℕ → ℕ → ℕ
-asOne answer place joined = answer + 65536 * place + 4294967296 * joined
+use Rattle.host.specs.AsOne.{asOne}
 
 -- the one answer of a match, as a number, and the buffers that the match leaves
 pub record LentOf (t list class work : List ℕ) (r : ℕ) (class-after work-after : List ℕ) : Type 0 where

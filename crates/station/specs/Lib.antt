@@ -1,4 +1,2 @@
--- What the entries promise: the host call (Host), and those on lent buffers (Entries). Stages serves this crate alone.
+-- What the entries on lent buffers promise. The host call's promise is `HostOf` of crate host.
 pub mod Entries
-pub mod Host
-pub mod Stages

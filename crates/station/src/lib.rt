@@ -1,18 +1,11 @@
 // What the host program calls, in C's plain numbers and lent rows: a job out of a job file, a match and a table check on
-// lent buffers, and the writer of job files.
+// lent buffers, and the writer of job files. The work is done by the crates before it, so that this one is proved in seconds.
 //
-// No entry asks anything of its caller. A definition of specs/ says for each what it returns and what it leaves in the rows
-// that it is lent, and a theorem of proofs/Theorems.antt that it says so of one result only.
-mod checked;
-mod choice;
-mod found;
-mod job;
-mod matched;
-mod report;
-
+// No entry asks anything of its caller. A definition (`HostOf` of crate host, and those of specs/) says for each what it
+// returns and what it leaves in the rows that it is lent, and a theorem of proofs/Theorems.antt that it says so of one result
+// only.
+ghost use Rattle.host.specs.Host.{HostOf};
 ghost use Rattle.station.specs.Entries.{LentOf, CheckedOf, WrittenOf};
-ghost use Rattle.station.specs.Host.{HostOf};
-use choice::Chosen;
 
 // The answer for the job of a number, from 1, in a job file.
 //
@@ -23,12 +16,7 @@ use choice::Chosen;
 pub extern "C" fn station_match(file: &[u8], job: u32, room: &mut [u8]) -> u16
     ensures { λ r. ⌜ HostOf (now (file .entry)) job (now (room .entry)) r (now (room .exit)) ⌝ }
 {
-    // It stands before all tests for the compiler's sake: docs/DECISIONS.md, 'Rows by the size of a job'.
-    let mut list = [0u16; 514];
-    match choice::choose(file, job as usize, room) {
-        Chosen::Refused(number) => number,
-        Chosen::Found(n, p) => { found::match_found(file, job as usize, n, p, &mut list, room) }
-    }
+    host::match_job(file, job, room)
 }
 
 // Answer + 65,536 x place + 4,294,967,296 x joins of a match on lent buffers.
@@ -41,7 +29,7 @@ pub extern "C" fn station_lent(
 ) -> u64
     ensures { λ r. ⌜ LentOf (now (table .entry)) (now (list .entry)) (now (class .entry)) (now (work .entry)) r (now (class .exit)) (now (work .exit)) ⌝ }
 {
-    matched::as_one(matcher::match_list(table, list, class, work))
+    host::matched::as_one(matcher::match_list(table, list, class, work))
 }
 
 // The same of the table check by itself. Its joins is 0.
@@ -49,7 +37,7 @@ pub extern "C" fn station_lent(
 pub extern "C" fn station_check(table: &[u32], class: &mut [u16], work: &mut [u16]) -> u64
     ensures { λ r. ⌜ CheckedOf (now (table .entry)) (now (class .entry)) (now (work .entry)) r (now (class .exit)) (now (work .exit)) ⌝ }
 {
-    checked::as_one(checker::check(table, class, work))
+    host::checked::as_one(checker::check(table, class, work))
 }
 
 // The writer's number.

@@ -1,0 +1,46 @@
+-- `host::report::report` meets its contract.
+-- Assumes nothing.
+use borrow.Author.Needs.{needs}
+use Rattle.host.proofs.ReportLaws.{reported}
+use Rattle.host.proofs.report.report.Statement.{statement}
+use Rattle.host.proofs.report.report.Tie as tie
+
+number-requires : tie.Need-number-requires
+number-requires c κs = search needs
+
+place-requires : tie.Need-place-requires
+place-requires c κs = search needs
+
+joins-requires : tie.Need-joins-requires
+joins-requires c κs = search needs
+
+put-numbers-requires : tie.Need-put-numbers-requires
+put-numbers-requires c κs = search needs
+
+put-classes-requires : tie.Need-put-classes-requires
+put-classes-requires c κs = search needs
+
+same-length : tie.Need-same-length
+same-length c = search needs
+
+returns : tie.Need-returns
+returns c =
+    let s : tie.Start = search needs in
+    let a : tie.After-number = search needs in
+    let p : tie.After-place = search needs in
+    let j : tie.After-joins = search needs in
+    let n : tie.After-put-numbers = search needs in
+    let k : tie.After-put-classes = search needs in
+    (a .number .ensures .0, reported (s .args .class .now) (s .args .room .now) (a .number .ensures .0) (p .place .ensures) (j .joins .ensures) (n .put-numbers .ensures) (k .put-classes .ensures))
+
+pub report-spec : {M : Type 1} → statement M
+report-spec =
+    tie.close
+    (tie.spec
+    number-requires
+    place-requires
+    joins-requires
+    put-numbers-requires
+    put-classes-requires
+    same-length
+    returns)

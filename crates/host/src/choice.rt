@@ -1,0 +1,72 @@
+// Which job the host call is about, or by which of 12, 13, 14, 15, 1 and 2 it is refused.
+ghost use mathlib.Core.Path.{_≡_};
+ghost use Prim.Native.Nat.{_*_, _≤_, _<_};
+ghost use lib.ListN.{length, getD};
+ghost use Rattle.host.specs.Stages.{Sized, Numbered, Choice};
+use jobfile::answers;
+
+// A table has at most so many words.
+const MOST_WORDS: usize = 4096;
+
+// A number that refuses the call, or n and p of the job.
+pub(crate) enum Chosen {
+    Refused(u16),
+    Found(usize, usize),
+}
+
+// A size, wide enough to compute with. That it is below 65,536 is said too, so that no caller has to show it.
+fn size(sizes: &[u16], i: usize) -> usize
+    requires { ⌜ i < length (now sizes) ⌝ }
+    ensures { λ r. ⌜ (r ≡ getD (now (sizes .entry)) i 0) × (r < 65536) ⌝ }
+{
+    sizes[i] as usize
+}
+
+// By the job's n, and the length of the room.
+fn sized(n: usize, p: usize, room: usize) -> Chosen
+    requires { ⌜ (n < 65536) × (p < 65536) ⌝ }
+    ensures { λ r. ⌜ Sized n p room r ⌝ }
+{
+    if n == 0 {
+        return Chosen::Refused(1);
+    }
+    if MOST_WORDS < n {
+        return Chosen::Refused(1);
+    }
+    if room < 6 + 2 * n {
+        return Chosen::Refused(2);
+    }
+    Chosen::Found(n, p)
+}
+
+// By the job's number too, and the file's row of sizes.
+fn numbered(sizes: &[u16], jobs: usize, job: usize, room: usize) -> Chosen
+    requires { ⌜ (2 * jobs ≤ length (now sizes)) × (length (now sizes) ≤ 128) ⌝ }
+    ensures { λ r. ⌜ Numbered (now (sizes .entry)) jobs job room r ⌝ }
+{
+    if job == 0 {
+        return Chosen::Refused(15);
+    }
+    if jobs < job {
+        return Chosen::Refused(15);
+    }
+    let n = size(sizes, 2 * (job - 1));
+    let p = size(sizes, 2 * (job - 1) + 1);
+    sized(n, p, room)
+}
+
+// By the file too.
+pub(crate) fn choose(file: &[u8], job: usize, room: &[u8]) -> Chosen
+    ensures { λ r. ⌜ Choice (now (file .entry)) job (now (room .entry)) r ⌝ }
+{
+    let read = jobfile::read(file);
+    let answer = read.answer;
+    let sizes = read.sizes;
+    let row = sizes.row;
+    let count = sizes.count;
+    let number = answers::file_number(answer);
+    if number != 0 {
+        return Chosen::Refused(number);
+    }
+    numbered(&row, count / 2, job, room.len())
+}

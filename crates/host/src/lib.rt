@@ -1,0 +1,23 @@
+// The work behind the entries for C: a job out of a job file, matched on rows of its size, with the answer written into the
+// room; and the numbers of an answer as one. Crate station is the entries themselves.
+pub mod checked;
+mod choice;
+mod found;
+mod job;
+pub mod matched;
+mod report;
+
+ghost use Rattle.host.specs.Host.{HostOf};
+use choice::Chosen;
+
+// The answer for the job of a number, from 1, in a job file, and the report of it in the room.
+pub fn match_job(file: &[u8], job: u32, room: &mut [u8]) -> u16
+    ensures { λ r. ⌜ HostOf (now (file .entry)) job (now (room .entry)) r (now (room .exit)) ⌝ }
+{
+    // It stands before all tests for the compiler's sake: docs/DECISIONS.md, 'Rows by the size of a job'.
+    let mut list = [0u16; 514];
+    match choice::choose(file, job as usize, room) {
+        Chosen::Refused(number) => number,
+        Chosen::Found(n, p) => { found::match_found(file, job as usize, n, p, &mut list, room) }
+    }
+}
