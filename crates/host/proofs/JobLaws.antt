@@ -1,6 +1,6 @@
 -- A job that the host call found. In order: its words and addresses, as they are copied out of its body (`part-size`,
 -- `words-copied`, `pairs-copied`); the match's answer as the host call's (`host-lent`); the rows
--- that are lent for it (`lent-fronts`, `list-cut`). Assumes nothing.
+-- that are lent for it (`lent-fronts`). Assumes nothing.
 use mathlib.Core.Path.{_≡_, refl, sym, ap, _∙_, subst}
 use mathlib.Core.Logic.{inl, inr}
 use mathlib.Core.List.{List, [], _∷_, _++_, append-nil, List·Memᴰ, List·Memᴰ·head, List·Memᴰ·tail}
@@ -26,7 +26,7 @@ use Rattle.jobfile.specs.Body.{taken}
 use Rattle.jobfile.proofs.NumberLaws.{length-rowIn}
 use Rattle.jobfile.proofs.Theorems.{body-size, body-words, body-pairs}
 use Rattle.host.specs.Host.{entryOf, wordsOf, tableOf, listOf, jobOf, Row, of-match, number, HostFault, match-fault, earlyOrder, lateOrder, reportOf, HostOf}
-use Rattle.host.specs.Stages.{Open, Cut, Roomy, Copyable, Lent}
+use Rattle.host.specs.Stages.{Open, Roomy, Copyable, Lent}
 use Rattle.host.proofs.ReportLaws.{room-reported}
 use Rattle.host.proofs.ChoiceLaws.{host-positive, none-early}
 use Rattle.host.proofs.CutLaws.{sent, long-lists}
@@ -216,10 +216,10 @@ module _ {bytes : List ℕ} {job : ℕ} {table list class work room : List ℕ} 
 -- ---- the rows that are lent
 
 -- the fronts of rows with room for it are just as long as it wants them, whatever the rows' own lengths
-pub lent-fronts : {bytes : List ℕ} {job n : ℕ} (table list class work : List ℕ) {room : List ℕ} → Cut bytes job n list (length room) → Roomy n table class work
-    → Lent bytes job (take n table) list (take n class) (take (4 * n) work) room
-lent-fronts table list class work c (tables, classes, works) =
-    let o = c .found in
+pub lent-fronts : {bytes : List ℕ} {job n p entries : ℕ} (table list class work : List ℕ) {room : List ℕ} → Open bytes job n p (length room) → Roomy n table list class work
+    → (entries ≡ min (2 * p) (length list)) × (entries ≤ 2 * p) × (entries ≤ length list) → Lent bytes job (take n table) (take entries list) (take n class) (take (4 * n) work) room
+lent-fronts {p = p} {entries} table list class work o (tables, lists, classes, works) (e, there, inside) =
+    let long : length (take entries list) ≡ entries = length-take-le entries list inside in
     record {
       copyable =
           record {
@@ -227,19 +227,12 @@ lent-fronts table list class work c (tables, classes, works) =
             some-job = o .some-job;
             inside = o .inside;
             words = length-take-le _ table tables ∙ o .words;
-            pairs = omega (arith, c .there, o .pairs);
+            pairs = omega (arith, there, o .pairs);
           };
-      cut = c .cut ∙ ap (λ (q : ℕ). min (2 * q) 514) (o .pairs);
+      cut = long ∙ e ∙ ap (min (2 * p)) lists ∙ ap (λ (q : ℕ). min (2 * q) 514) (o .pairs);
       classes = length-take-le _ class classes ∙ o .words;
       works = length-take-le _ work works ∙ ap (λ (m : ℕ). 4 * m) (o .words);
       some-word = omega (arith, o .some-word, o .words);
       few-words = omega (arith, o .few-words, o .words);
       enough = omega (arith, o .enough, o .words);
     }
-
--- the part of a row of 514 entries that a list has, or all of it
-pub list-cut : {bytes : List ℕ} {job n p entries room : ℕ} (list : List ℕ) → Open bytes job n p room → length list ≡ 514 → entries ≡ min (2 * p) (length list) → entries ≤ 2 * p → entries ≤ length list
-    → Cut bytes job n (take entries list) room
-list-cut {p = p} {entries} list o size e there inside =
-    let long : length (take entries list) ≡ entries = length-take-le entries list inside in
-    record { p = p; found = o; cut = long ∙ e ∙ ap (min (2 * p)) size; there = omega arith }

@@ -48,16 +48,10 @@ Choice bytes job room (Found n p) = Open bytes job n p (length room)
 
 -- ---- the rows that are lent for it
 
--- such a job and a row for its list. A list of over 256 pairs is cut off at 514 entries, which is still over 512.
-pub record Cut (bytes : List ℕ) (job n : ℕ) (list : List ℕ) (room : ℕ) : Type 0 where
-  pub p : ℕ
-  pub found : Open bytes job n p room
-  pub cut : length list ≡ min (2 * p) 514
-  pub there : length list ≤ 2 * p
-
--- rows with room in their fronts for a table of n words, its class entries and its work
-abbrev pub Roomy : ℕ → List ℕ → List ℕ → List ℕ → Type 0
-Roomy n table class work = (n ≤ length table) × (n ≤ length class) × (4 * n ≤ length work)
+-- rows with room in their fronts for a table of n words, its class entries and its work, and a row for its list. A list of
+-- over 256 pairs is cut off at 514 entries, which is still over 512.
+abbrev pub Roomy : ℕ → List ℕ → List ℕ → List ℕ → List ℕ → Type 0
+Roomy n table list class work = (n ≤ length table) × (length list ≡ 514) × (n ≤ length class) × (4 * n ≤ length work)
 
 -- rows for the job's words, and for its addresses or the first of them
 pub record Copyable (bytes : List ℕ) (job : ℕ) (table list : List ℕ) : Type 0 where

@@ -17,7 +17,7 @@ slice-aggregate-match-in-3 c = search needs
 match-in-requires : tie.Need-match-in-requires
 match-in-requires c κs =
     let s : tie.Start = search needs in
-    (s .pre .0, (omega (arith, s .pre .1), omega (arith, s .pre .1), omega (arith, s .pre .1)))
+    (s .pre .0, (omega (arith, s .pre .2), s .pre .1, omega (arith, s .pre .2), omega (arith, s .pre .2)))
 
 same-length : tie.Need-same-length
 same-length c = search needs
