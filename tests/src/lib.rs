@@ -14,6 +14,7 @@ pub mod ground;
 pub mod guarded;
 pub mod independent;
 pub mod jobs;
+pub mod large_stack;
 pub mod large_tables;
 pub mod match_reference;
 pub mod matching;

@@ -43,9 +43,14 @@ pub fn printed(command: &mut Command) -> String {
     String::from_utf8(output.stdout).expect("it prints text")
 }
 
-/// The same for a command that reads a text. It may print before it has read all, so what it prints is
-/// read meanwhile.
+/// The same for a command that reads a text.
 pub fn printed_for(command: &mut Command, input: &str) -> String {
+    let output = answered_for(command, input.as_bytes());
+    String::from_utf8(output).expect("it prints text")
+}
+
+/// The same for bytes. It may print before it has read all, so what it prints is read meanwhile.
+pub fn answered_for(command: &mut Command, input: &[u8]) -> Vec<u8> {
     let mut child = command
         .stdin(Stdio::piped())
         .stdout(Stdio::piped())
@@ -53,14 +58,14 @@ pub fn printed_for(command: &mut Command, input: &str) -> String {
         .spawn()
         .unwrap_or_else(|e| panic!("{command:?}: {e}"));
     let mut to_child = child.stdin.take().expect("its input is piped");
-    let input = input.to_string();
-    let writer = thread::spawn(move || to_child.write_all(input.as_bytes()));
+    let input = input.to_vec();
+    let writer = thread::spawn(move || to_child.write_all(&input));
     let output = child.wait_with_output().expect("it ends");
     let errors = String::from_utf8_lossy(&output.stderr);
     assert!(output.status.success(), "{command:?}: {errors}");
     let written = writer.join().expect("the writer ends");
     written.expect("it reads its input");
-    String::from_utf8(output.stdout).expect("it prints text")
+    output.stdout
 }
 
 /// Valgrind, for a program that is to be named next. What it finds ends the run with a status of its own.

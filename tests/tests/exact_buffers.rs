@@ -6,14 +6,13 @@
 //! the copies that it makes; valgrind sees every read and write.
 
 use station_tests::independent::jobs::job;
-use station_tests::independent::judge::{check, judge};
-use station_tests::independent::{host, jobfile};
+use station_tests::independent::wanted::{self, OnBuffers};
 use station_tests::jobs::{bodies_of, examples, file_from, in_pairs, sizes_of, Job};
-use station_tests::matching::{constants, Given};
+use station_tests::matching::constants;
 use station_tests::programs::{built_with_station, printed_for, valgrind};
 use station_tests::random::Numbers;
 use station_tests::requests::{put, put_row};
-use station_tests::table::{ACCEPTED, MOST_WORDS};
+use station_tests::table::MOST_WORDS;
 use std::fmt::Display;
 use std::process::Command;
 
@@ -43,53 +42,40 @@ impl Talk {
         self.wanted.push('\n');
     }
 
-    fn on_lent(&mut self, n: usize, class_room: usize, work_room: usize, given: &Given) {
-        let numbers = [given.answer, given.place, given.joins].map(u64::from);
-        let result = numbers[0] + (numbers[1] << 16) + (numbers[2] << 32);
-        let (class, work) = given.left(n);
-        self.rooms(result, &[(class_room, &class), (work_room, &work)]);
+    fn on_lent(&mut self, rooms: [usize; 2], (result, left): OnBuffers) {
+        let [class, work] = left;
+        self.rooms(result, &[(rooms[0], &class[..]), (rooms[1], &work[..])]);
     }
 
     fn lent(&mut self, (table, list): &Job, class_room: usize, work_room: usize) {
         self.asked.push('l');
         put_row(&mut self.asked, table);
         put_row(&mut self.asked, list);
-        let (wanted, _) = judge(table, list, class_room, work_room);
-        self.on_lent(table.len(), class_room, work_room, &wanted);
+        let wanted = wanted::of_lent(table, list, class_room, work_room);
+        self.on_lent([class_room, work_room], wanted);
     }
 
     fn check(&mut self, table: &[u32], class_room: usize, work_room: usize) {
         self.asked.push('c');
         put_row(&mut self.asked, table);
-        let wanted = check(table, class_room, work_room);
-        self.on_lent(table.len(), class_room, work_room, &wanted);
+        let wanted = wanted::of_check(table, class_room, work_room);
+        self.on_lent([class_room, work_room], wanted);
     }
 
     fn job_of_file(&mut self, file: &[u8], job: u32, room: usize) {
         self.asked.push('m');
         put_row(&mut self.asked, file);
         put(&mut self.asked, &[job]);
-        let (answer, report) = match host::asked_for(file, job, room) {
-            Err(refusal) => (refusal, Vec::new()),
-            Ok((table, list)) => {
-                let n = table.len();
-                let given = judge(&table, &list, n, 4 * n).0;
-                (given.answer, host::report(&given, n))
-            }
-        };
-        self.rooms(u64::from(answer), &[(room, &report)]);
+        let (answer, report) = wanted::of_match(file, job, room);
+        self.rooms(answer, &[(room, &report)]);
     }
 
     fn write(&mut self, sizes: &[u16], bodies: &[u8], room: usize) {
         self.asked.push('w');
         put_row(&mut self.asked, sizes);
         put_row(&mut self.asked, bodies);
-        let refusal = jobfile::refusal(sizes, bodies.len(), room);
-        let file = match refusal {
-            Some(_) => Vec::new(),
-            None => file_from(sizes, bodies),
-        };
-        self.rooms(u64::from(refusal.unwrap_or(ACCEPTED)), &[(room, &file)]);
+        let (answer, file) = wanted::of_write(sizes, bodies, room);
+        self.rooms(answer, &[(room, &file)]);
     }
 
     /// A job through the four entries: on just enough room, on room that is short by one, and on none.

@@ -6,13 +6,12 @@ use station_tests::independent::compare::compare;
 use station_tests::independent::judge::{judge, wrong_as_replacement, Trees};
 use station_tests::independent::seen::Seen;
 use station_tests::independent::terms::{Replacement, TooLarge};
+use station_tests::large_stack::{ended, on_a_large_stack};
 use station_tests::matching::{accepted, example_a, example_b, example_c, refused, Given};
 use station_tests::table::{
     argument_count, constant, function, pointer, variable, words, ADDRESS, CLASH, CYCLE, LOOP,
 };
-use std::panic::resume_unwind;
-use std::thread::{self, JoinHandle};
-use std::{env, time};
+use std::{env, thread, time};
 
 const SEED: u64 = 0x0b1d_5eed_1965_0023;
 const JOBS: u64 = 200_000;
@@ -28,17 +27,6 @@ fn setting(name: &str, otherwise: u64) -> u64 {
         None => text.parse(),
     };
     number.unwrap_or_else(|_| panic!("{name} is no number: {text}"))
-}
-
-/// Runs on a stack of 256 MiB: terms may be as deep as they are large, and what goes over them calls
-/// itself.
-fn on_a_large_stack<T: Send + 'static>(run: impl FnOnce() -> T + Send + 'static) -> JoinHandle<T> {
-    let thread = thread::Builder::new().stack_size(256 << 20).spawn(run);
-    thread.expect("a thread")
-}
-
-fn ended<T>(thread: JoinHandle<T>) -> T {
-    thread.join().unwrap_or_else(|panic| resume_unwind(panic))
 }
 
 #[test]

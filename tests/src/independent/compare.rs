@@ -3,9 +3,9 @@
 use super::jobs::{job, Job};
 use super::judge::{check, judge, wrong_as_replacement, Trees};
 use super::seen::{Entry, Seen};
-use super::{damage, filed, host, jobfile};
+use super::{filed, host, jobfile};
 use crate::checking::checked_on;
-use crate::jobs::{bodies_of, file_from, in_pairs, sizes_of};
+use crate::jobs::file_from;
 use crate::matching::{matched_on, Given};
 use crate::random::Numbers;
 use crate::station;
@@ -66,24 +66,16 @@ fn check_alone(numbers: &mut Numbers, job: &Job, seen: &mut Seen) {
 
 /// The job in a file among others, which the station writes; then whatever the file may have become.
 fn in_a_file(numbers: &mut Numbers, job: &Job, wanted: &Given, seen: &mut Seen) {
-    // A size has 16 bits.
-    let words = job.table.len().min(65_535);
-    let own = in_pairs((job.table[..words].to_vec(), job.list.clone()));
+    let own = filed::fileable(&job.table, &job.list);
     let known = own.0 == job.table && own.1 == job.list && wanted.answer != ROOM;
 
-    let (jobs, own_number) = filed::among_others(numbers, own.clone());
-    let (mut sizes, mut bodies) = (sizes_of(&jobs), bodies_of(&jobs));
-    if numbers.one_in(8) {
-        damage::sent(numbers, &mut sizes, &mut bodies);
-    }
-    let mut file = file_from(&sizes, &bodies);
-    write(numbers, &sizes, &bodies, &file, seen);
+    let sent = filed::sent(numbers, own.clone());
+    let mut file = file_from(&sent.sizes, &sent.bodies);
+    write(numbers, &sent.sizes, &sent.bodies, &file, seen);
 
-    if file.len() > 2 && numbers.one_in(4) {
-        damage::file(numbers, &mut file);
-    }
-    let asked = filed::number(numbers, own_number, jobs.len());
-    let room = filed::room(numbers, 6 + 2 * words);
+    filed::underway(numbers, &mut file);
+    let asked = filed::number(numbers, sent.own_number, sent.jobs);
+    let room = filed::room(numbers, 6 + 2 * own.0.len());
     let mut room = numbers.bytes(room);
     let mut left = room.clone();
     let answer = match host::asked_for(&file, asked, room.len()) {

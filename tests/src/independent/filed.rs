@@ -1,11 +1,48 @@
 //! Random job files: a job among others, the number that is asked for, and room.
 
-use super::{lists, tables};
-use crate::jobs::Job;
+use super::{damage, lists, tables};
+use crate::jobs::{bodies_of, in_pairs, sizes_of, Job};
 use crate::random::Numbers;
 
+/// A job as a file can hold it: a size has 16 bits, and pairs are whole.
+pub fn fileable(table: &[u32], list: &[u16]) -> Job {
+    let words = table.len().min(65_535);
+    in_pairs((table[..words].to_vec(), list.to_vec()))
+}
+
+/// What the writer is sent for a job among others: sizes and bodies, once in a while not as they should
+/// be.
+pub struct Sent {
+    pub sizes: Vec<u16>,
+    pub bodies: Vec<u8>,
+    /// The job's own number, and how many jobs there were.
+    pub own_number: usize,
+    pub jobs: usize,
+}
+
+pub fn sent(numbers: &mut Numbers, own: Job) -> Sent {
+    let (jobs, own_number) = among_others(numbers, own);
+    let (mut sizes, mut bodies) = (sizes_of(&jobs), bodies_of(&jobs));
+    if numbers.one_in(8) {
+        damage::sent(numbers, &mut sizes, &mut bodies);
+    }
+    Sent {
+        sizes,
+        bodies,
+        own_number,
+        jobs: jobs.len(),
+    }
+}
+
+/// What becomes of a file on its way, once in a while.
+pub fn underway(numbers: &mut Numbers, file: &mut Vec<u8>) {
+    if file.len() > 2 && numbers.one_in(4) {
+        damage::file(numbers, file);
+    }
+}
+
 /// The job with others before and behind it, and its number.
-pub fn among_others(numbers: &mut Numbers, job: Job) -> (Vec<Job>, usize) {
+fn among_others(numbers: &mut Numbers, job: Job) -> (Vec<Job>, usize) {
     let others = match numbers.below(16) {
         0..=7 => 0,
         8..=14 => 1 + numbers.below(4),

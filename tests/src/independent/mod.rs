@@ -18,6 +18,7 @@ pub mod robinson;
 pub mod seen;
 pub mod tables;
 pub mod terms;
+pub mod wanted;
 
 /// The most symbols that the terms of a job may have, unfolded and resolved. Shared subterms make terms
 /// of a few words as large as one likes, so a job beyond it is judged by its partition alone.

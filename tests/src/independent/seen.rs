@@ -5,7 +5,7 @@ use super::robinson::Obstacle;
 use crate::matching::Given;
 use crate::table::{ACCEPTED, CLASH, CYCLE};
 
-#[derive(Clone, Copy)]
+#[derive(Clone, Copy, Debug, PartialEq)]
 pub enum Entry {
     Lent,
     Check,
@@ -121,12 +121,16 @@ impl Seen {
         all
     }
 
-    pub fn print(&self) {
+    pub fn print_answers(&self) {
         println!("answers 0 to 15");
         for (name, entry) in ENTRIES {
             println!("  {name:13} {:?}", self.answers[entry as usize]);
         }
         println!("  all four      {:?}", self.all_answers());
+    }
+
+    pub fn print(&self) {
+        self.print_answers();
         println!("pairs up to 1, 5, 20, 100, more");
         println!("  accepted      {:?}", self.accepted_with_pairs);
         println!("  clash at      {:?}", self.clash_at_pair);
