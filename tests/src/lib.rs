@@ -16,6 +16,7 @@ pub mod independent;
 pub mod jobs;
 pub mod large_stack;
 pub mod large_tables;
+pub mod machine_code;
 pub mod match_reference;
 pub mod matching;
 pub mod names;
