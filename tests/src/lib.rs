@@ -9,6 +9,7 @@ use std::fs;
 use std::path::{Path, PathBuf};
 
 pub mod checking;
+pub mod every_call;
 pub mod files;
 pub mod ground;
 pub mod guarded;

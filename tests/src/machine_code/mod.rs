@@ -5,7 +5,9 @@ pub mod calls;
 pub mod flow;
 pub mod listing;
 pub mod probes;
+pub mod run;
 pub mod stack;
+pub mod unreachable;
 
 use crate::programs::printed;
 use crate::repository;
