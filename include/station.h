@@ -5,6 +5,10 @@
  * proved: they end, stay inside what they are lent, and give the answers of document 01
  * (docs/document-01.md). docs/HOST.md leads through a first host program; examples/host.c is one.
  *
+ * The proof is of the source, on the language's abstract machine. The compiler, the linker and the host are
+ * not in it: the library for x86-64 Linux is tested, and the stack that a call takes is measured and not
+ * proved. docs/HOST.md has the figures.
+ *
  * What the host owes
  * ------------------
  * - No pointer is null, also where its length is 0.
