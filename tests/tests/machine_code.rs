@@ -72,6 +72,39 @@ fn a_call_through_a_register_is_seen() {
     assert_eq!(jump, Err(told.to_string()));
 }
 
+/// A function that jumps by a table of two entries, of which the second is given.
+fn by_a_table(second: &str) -> Listing {
+    let code = "0000000000000000 <f>:
+   0:\tlea    0x0(%rip),%rsi\t0: R_X86_64_PC32\t.rodata.f-0x4
+   1:\tmovslq (%rsi,%rdi,4),%rax
+   2:\tadd    %rsi,%rax
+   3:\tjmp    *%rax
+   4:\tret
+   5:\tret
+";
+    let entries = format!(
+        "RELOCATION RECORDS FOR [.rodata.f]:
+OFFSET           TYPE              VALUE
+0000000000000000 R_X86_64_PC32     .text.f+0x0000000000000004
+0000000000000004 R_X86_64_PC32     {second}
+"
+    );
+    Listing::of(code, &entries)
+}
+
+/// An entry counts from the table, and its relocation from the entry itself.
+#[test]
+fn a_jump_by_a_table_stays_in_its_function() {
+    let inside = by_a_table(".text.f+0x0000000000000009");
+    assert_eq!(inside.functions[0].tables, [[4, 5]]);
+    assert_eq!(calls::through_a_register(&inside), Vec::<String>::new());
+    for outside in [".text.f+0x000000000000000a", ".text.g+0x0000000000000009"] {
+        let library = by_a_table(outside);
+        assert_eq!(calls::through_a_register(&library), ["f: 3"]);
+        assert!(stack::most(&library).is_err());
+    }
+}
+
 #[test]
 fn no_function_reaches_itself() {
     let library = of_library();

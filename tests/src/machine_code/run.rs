@@ -51,13 +51,13 @@ pub struct Unrun {
     pub texts: Vec<String>,
 }
 
-/// The functions of a program that a library holds.
+/// The functions of a program that a library holds, instruction for instruction.
 pub fn of_library<'a>(program: &'a Listing, library: &Listing) -> Vec<&'a Function> {
     let in_program = |function: &Function| {
         let found = program.function(&function.name);
         let found = found.unwrap_or_else(|| panic!("{} is not linked", function.name));
-        let count = |function: &Function| working(function).count();
-        assert_eq!(count(found), count(function), "{}", function.name);
+        let texts = |function: &Function| working(function).map(|i| i.text()).collect::<Vec<_>>();
+        assert_eq!(texts(found), texts(function), "{}", function.name);
         found
     };
     library.functions.iter().map(in_program).collect()
