@@ -1,5 +1,4 @@
--- `checker::shape_fault::row_by_row` meets its contract.
--- Assumes nothing.
+-- `checker::shape_fault::row_by_row` meets its contract: each row answers where those before it do not apply. Assumes nothing.
 use mathlib.Core.Path.{sym, ap, _∙_}
 use native.Mathlib.Omega.{arith}
 use borrow.Author.Needs.{needs}
@@ -15,7 +14,7 @@ cast-t7 : tie.Need-cast-t7
 cast-t7 c = search needs
 
 returns : tie.Need-returns
-returns c = bad-word (c .before .first-bad-word .ensures) (c .if1 .taken)
+returns c = bad-word (search needs) (c .if1 .taken)
 
 layout-break-requires : tie.Need-layout-break-requires
 layout-break-requires c κs = search needs
@@ -24,10 +23,18 @@ enum-known-at : tie.Need-enum-known-at
 enum-known-at c = search needs
 
 cast-t10 : tie.Need-cast-t10
-cast-t10 c = omega (arith, c .before .before .before .before .before .before .before .pre, break-within (c .before .before .before .before .before .before .before .args .table .now) _ (sym (c .before .before .before .layout-break .ensures) ∙ ap breakOf (c .before .at .given .1)))
+cast-t10 c =
+    let p : tie.Start = search needs in
+    let layout : tie.After-layout-break = search needs in
+    omega (arith, p .pre, break-within (p .args .table .now) _ (sym (layout .layout-break .ensures) ∙ ap breakOf (c .before .at .given .1)))
 
 returns-2 : tie.Need-returns-2
-returns-2 c = bad-layout (c .before .before .before .before .before .first-bad-word .ensures) (c .before .before .before .before .if1 .left) (sym (c .before .before .before .layout-break .ensures) ∙ ap breakOf (c .before .at .given .1))
+returns-2 c =
+    let words : tie.After-first-bad-word = search needs in
+    let good : tie.Else1 = search needs in
+    let layout : tie.After-layout-break = search needs in
+    bad-layout (words .first-bad-word .ensures) (good .if1 .left)
+    (sym (layout .layout-break .ensures) ∙ ap breakOf (c .before .at .given .1))
 
 enum-told : tie.Need-enum-told
 enum-told c = search needs
@@ -39,10 +46,26 @@ cast-t12 : tie.Need-cast-t12
 cast-t12 c = search needs
 
 returns-3 : tie.Need-returns-3
-returns-3 c = bad-pointer (c .before .before .before .before .before .before .first-bad-word .ensures) (c .before .before .before .before .before .if1 .left) (sym (c .before .before .before .before .layout-break .ensures) ∙ ap breakOf (c .before .before .enum-told .given .1)) (c .before .first-bad-pointer .ensures) (c .if2 .taken)
+returns-3 c =
+    let words : tie.After-first-bad-word = search needs in
+    let good : tie.Else1 = search needs in
+    let layout : tie.After-layout-break = search needs in
+    let whole : tie.After-enum-told = search needs in
+    let pointers : tie.After-first-bad-pointer = search needs in
+    bad-pointer (words .first-bad-word .ensures) (good .if1 .left)
+    (sym (layout .layout-break .ensures) ∙ ap breakOf (whole .enum-told .given .1))
+    (pointers .first-bad-pointer .ensures) (c .if2 .taken)
 
 returns-4 : tie.Need-returns-4
-returns-4 c = no-bad-shape (c .before .before .before .before .before .before .first-bad-word .ensures) (c .before .before .before .before .before .if1 .left) (sym (c .before .before .before .before .layout-break .ensures) ∙ ap breakOf (c .before .before .enum-told .given .1)) (c .before .first-bad-pointer .ensures) (c .if2 .left)
+returns-4 c =
+    let words : tie.After-first-bad-word = search needs in
+    let good : tie.Else1 = search needs in
+    let layout : tie.After-layout-break = search needs in
+    let whole : tie.After-enum-told = search needs in
+    let pointers : tie.After-first-bad-pointer = search needs in
+    no-bad-shape (words .first-bad-word .ensures) (good .if1 .left)
+    (sym (layout .layout-break .ensures) ∙ ap breakOf (whole .enum-told .given .1))
+    (pointers .first-bad-pointer .ensures) (c .if2 .left)
 
 pub row-by-row-spec : {M : Type 1} → statement M
 row-by-row-spec =
