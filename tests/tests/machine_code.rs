@@ -178,6 +178,14 @@ fn the_stack_of_planted_functions() {
     assert_eq!(stack_of(&framed), Ok(8 + 8 + 32));
     let sent = ["push 0x20(%rsp)", "pop %rax", "popcnt %rax,%rax", "ret"];
     assert_eq!(stack_of(&sent), Ok(8 + 8));
+    let lent = [
+        "push %rax",
+        "mov %rsp,%rdi",
+        "call -> memset",
+        "pop %rax",
+        "ret",
+    ];
+    assert_eq!(stack_of(&lent), Ok(8 + 8 + 8));
     // what lies below the stack pointer is used where nothing is called
     assert_eq!(stack_of(&["mov %rdi,-0x18(%rsp)", "ret"]), Ok(8 + 24));
     // only one of two ways has a frame

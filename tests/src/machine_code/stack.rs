@@ -30,6 +30,8 @@ fn moved(instruction: &Instruction) -> Option<i64> {
         ("pop", [what]) if is_whole(what) && is_register(what) => Some(-8),
         ("sub", [by, "%rsp"]) => Some(number(by)? as i64),
         ("add", [by, "%rsp"]) => Some(-(number(by)? as i64)),
+        // the address of what lies at its end, as lea gives it of what lies above
+        ("mov", ["%rsp", to]) if is_register(to) && !is_stack_pointer(to) => Some(0),
         (name, _) => {
             let named = operands.iter().any(|&operand| is_stack_pointer(operand));
             (!named && !is_of_the_stack(name)).then_some(0)
