@@ -2,17 +2,18 @@
 --     what is copied and matched    part-size, words-loaded, entries-loaded, job-matched
 --     lengths                       job-room, entry-sizes
 --     the answers                   good-listed, accepted-room: what is known once an answer is 0
+--     the row of the table          front-inside, front-fits: its first n entries, once they have come back
 --     one result                    job-only: two results that the contract of match_job allows are equal
 -- Assumes nothing.
 use mathlib.Core.Path.{_≡_, refl, sym, ap, _∙_, subst}
 use mathlib.Core.Logic.{inl, inr}
-use mathlib.Core.List.{List, []}
+use mathlib.Core.List.{List, [], _++_}
 use Prim.Native.Nat.{ℕ, suc, _+_, _-_, _*_, _/_, _≤_, _<_}
 use native.Mathlib.Decide.{decLe}
 use native.Mathlib.Numerals.{add-one}
 use native.Mathlib.Omega.{arith}
-use lib.ListN.{length, take, drop, getD}
-use lib.Seq.{take-all}
+use lib.ListN.{length, take, drop, getD, length-append}
+use lib.Seq.{take-all, length-take-le}
 use Rattle.table.specs.Answers.{Answered}
 use Rattle.table.specs.Faults.{Fault, size-fault, room-fault, number, matchOrder}
 use Rattle.matcher.specs.Match.{numberOf, placeOf, jobOf, MatchOf}
@@ -117,6 +118,20 @@ pub accepted-room : {file class work table list class-after work-after : List �
 accepted-room {file} {class} {work} {k = k} {answer} m z =
     let room = room-of (jobAt file k .words) (entriesOf (jobAt file k .pairs)) class work (numberOf answer) (placeOf answer) z (m .matched .answered) in
     (omega (arith, room .0, ap length (m .words)), omega (arith, room .1, ap length (m .words)))
+
+-- ---- the row of the table
+
+-- its first n entries were lent, and came back as front
+module _ {file class work front list class-after work-after : List ℕ} {k : ℕ} {answer : Matched} (row : List ℕ) (n : ℕ) (m : JobMatched file k class work answer front list class-after work-after) (inside : n ≤ length row) (same : length front ≡ length (take n row)) where
+  pub front-inside : n ≤ length (front ++ drop n row)
+  front-inside = omega (arith, length-append front (drop n row), length-take-le n row inside)
+
+  pub front-fits : numberOf answer ≡ 0 → length class ≡ 4096 → length class-after ≡ length class
+      → (length (take n (front ++ drop n row)) ≤ length class-after) × (length (take n (front ++ drop n row)) ≤ 4096)
+  front-fits z room kept =
+      let r = accepted-room m z in
+      let long : length (take n (front ++ drop n row)) ≡ length front = length-take-le n (front ++ drop n row) front-inside ∙ sym (same ∙ length-take-le n row inside) in
+      (omega (arith, r .1), omega (arith, r .0))
 
 -- ---- one result
 

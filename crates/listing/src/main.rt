@@ -11,7 +11,7 @@ ghost use Prim.Native.Nat.{_≤_};
 ghost use mathlib.Core.Path.{_≡_};
 ghost use lib.ListN.{length};
 ghost use Rattle.jobfile.specs.File.{GoodFile, wordsIn, pairsIn, sizesIn};
-ghost use Rattle.listing.specs.Listing.{Entered, Sized};
+ghost use Rattle.listing.specs.Listing.{Entered};
 use jobfile::answers;
 use jobfile::answers::FileAnswer;
 use libc::STDIN_FILENO;
@@ -74,25 +74,7 @@ fn print_variables(table: &[u32], class: &[u16])
     }
 }
 
-// The lines of entry k, in rows of just the lengths that its table and list have.
-fn print_matched(
-    file: &[u8],
-    k: usize,
-    table: &mut [u32],
-    list: &mut [u16],
-    class: &mut [u16],
-    work: &mut [u16],
-)
-    requires { ⌜ Sized (now file) k (now table) (now list) ⌝ }
-{
-    let answer = job::match_job(file, k, table, list, class, work);
-    print_job((k + 1) as u16, answer);
-    if numbers::number(answer) == 0 {
-        print_variables(table, class);
-    }
-}
-
-// The same, by n and p. The rows are new for each job, so nothing of the last one is there.
+// The lines of entry k, which has n words and p pairs. The rows are new for each job, so nothing of the last one is there.
 fn print_entered(file: &[u8], k: usize, n: usize, p: usize)
     requires { ⌜ Entered (now file) k × (n ≡ wordsIn (now file) k) × (p ≡ pairsIn (now file) k) ⌝ }
 {
@@ -101,7 +83,7 @@ fn print_entered(file: &[u8], k: usize, n: usize, p: usize)
     let mut class = [0u16; 4096];
     let mut work = [0u16; 16384];
     let entries = 2 * p;
-    print_matched(
+    let answer = job::match_job(
         file,
         k,
         &mut table[..n],
@@ -109,6 +91,10 @@ fn print_entered(file: &[u8], k: usize, n: usize, p: usize)
         &mut class,
         &mut work,
     );
+    print_job((k + 1) as u16, answer);
+    if numbers::number(answer) == 0 {
+        print_variables(&table[..n], &class);
+    }
 }
 
 // The lines of all jobs, in order.
