@@ -1,7 +1,7 @@
 -- The search for cycles, with each node its own class, finds the loops of a table.
 --
--- In order: what the search finds (`LoopSearch`); the row of own classes; it can be searched (`own-searchable`); ways of its net are
--- children (`way-child`, `child-way`), so what the search says is true of the table (`loops-found`); with what is kept, `loop-search`.
+-- In order: what the search finds (`LoopSearch`); the row of own classes; it can be searched (`own-searchable`); edges of its digraph are
+-- children (`edge-child`, `child-edge`), so what the search says is true of the table (`loops-found`); with what is kept, `loop-search`.
 -- Assumes nothing.
 use mathlib.Core.Path.{_≡_, refl, sym, ap, _∙_, subst}
 use mathlib.Core.Bool.{Bool, true, false}
@@ -17,7 +17,7 @@ use Rattle.table.specs.Table.{nodeKind, graphOf, degree, childOf}
 use Rattle.table.proofs.Children.{NamedChild, named-child, child-degree, degree-child}
 use Rattle.table.specs.Shaped.{Shaped}
 use Rattle.table.proofs.Shape.{inside-kind, shaped-laid, shaped-degree, shaped-child}
-use Rattle.cycles.specs.Net.{Way, netOf, Returns, Searchable, Searched}
+use Rattle.cycles.specs.Digraph.{Edge, digraphOf, Returns, Searchable, Searched}
 use Rattle.checker.specs.Stages.{counting, Roomy, Kept}
 
 -- some node reaches itself, or none does
@@ -68,17 +68,17 @@ module _ (t row rest : List ℕ) (own : row ≡ counting 0 (length t) ++ rest) w
           name-own = λ x i h. ap (entry row) (own-child x i h);
         }
 
-    way-child : (x y : ℕ) → Way (netOf t row) x y → Child (graphOf t) x y
-    way-child x y (i, h, e) = subst (Child (graphOf t) x) (sym (own-child x i h) ∙ e) (degree-child t x i h)
+    edge-child : (x y : ℕ) → Edge (digraphOf t row) x y → Child (graphOf t) x y
+    edge-child x y (i, h, e) = subst (Child (graphOf t) x) (sym (own-child x i h) ∙ e) (degree-child t x i h)
 
-    child-way : (x y : ℕ) → Child (graphOf t) x y → Way (netOf t row) x y
-    child-way x y d =
+    child-edge : (x y : ℕ) → Child (graphOf t) x y → Edge (digraphOf t row) x y
+    child-edge x y d =
         let c : NamedChild t x y = named-child t x y d in
         (c .place, child-degree t c, own-child x (c .place) (child-degree t c) ∙ c .is)
 
-    pub loops-found : (found : Bool) → Returns found (netOf t row) → Loops found t
-    loops-found true (x, s) = (x, steps-map way-child s)
-    loops-found false none-returns = λ x s. none-returns x (steps-map child-way s)
+    pub loops-found : (found : Bool) → Returns found (digraphOf t row) → Loops found t
+    loops-found true (x, s) = (x, steps-map edge-child s)
+    loops-found false none-returns = λ x s. none-returns x (steps-map child-edge s)
 
 -- ---- what is kept
 

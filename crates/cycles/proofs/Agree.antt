@@ -5,14 +5,14 @@ use mathlib.Core.Bool.{Bool, true, false}
 use mathlib.Core.List.{List}
 use Prim.Native.Nat.{ℕ}
 use Rattle.rows.proofs.Laws.{equations-agree}
-use Rattle.cycles.specs.Net.{Net, Returns, Searched}
+use Rattle.cycles.specs.Digraph.{Digraph, Returns, Searched}
 
--- no net both has a number that reaches itself and has none
-pub returns-agree : (N : Net) (a b : Bool) → Returns a N → Returns b N → a ≡ b
-returns-agree N true true p q = refl
-returns-agree N true false p q = absurd (q (p .0) (p .1))
-returns-agree N false true p q = absurd (p (q .0) (q .1))
-returns-agree N false false p q = refl
+-- no digraph both has a vertex that reaches itself and has none
+pub returns-agree : (D : Digraph) (a b : Bool) → Returns a D → Returns b D → a ≡ b
+returns-agree D true true p q = refl
+returns-agree D true false p q = absurd (q (p .0) (p .1))
+returns-agree D false true p q = absurd (p (q .0) (q .1))
+returns-agree D false false p q = refl
 
 pub searched-agree : {t row before after after′ : List ℕ} {a b : Bool} → Searched t row before a after → Searched t row before b after′
     → (a ≡ b) × (after ≡ after′)

@@ -1,4 +1,4 @@
--- The moves of the search keep its invariant: a new number is begun (`begin`), ways were passed over (`advance`), and the number
+-- The moves of the search keep its invariant: a new vertex is begun (`begin`), edges were passed over (`advance`), and the vertex
 -- at the end of the path is finished (`finish`). The first and the last are `Moved`. Assumes nothing.
 use mathlib.Core.Path.{_≡_, sym, ap, _∙_, subst}
 use mathlib.Core.List.{List}
@@ -6,79 +6,79 @@ use Prim.Native.Nat.{ℕ, _+_, _-_, _≤_, _<_}
 use native.Mathlib.Decide.{ℕ-discrete, decLt}
 use native.Mathlib.Omega.{arith}
 use lib.ListN.{set}
-use Rattle.cycles.specs.Net.{Net}
+use Rattle.cycles.specs.Digraph.{Digraph}
 use Rattle.cycles.specs.Marks.{mark, finishedMark, onPath, Safe, safe, Follows, Search, Grown}
 use Rattle.cycles.proofs.Totals.{left, total-part}
 use Rattle.cycles.proofs.Stores.{Raised, raised-mark, raised-push, pushed, raised-grown, raised-at-most, raised-less, raised-begun, raised-new}
 
 -- the same mark and the same ends
-follows-at : {N : Net} {w w′ : List ℕ} {x x′ y y′ : ℕ} → mark w′ x ≡ mark w x → x′ ≡ x → y′ ≡ y → Follows N w x y → Follows N w′ x′ y′
-follows-at {N} {w} {w′} {x} {x′} {y} {y′} m p q follows =
-    subst (λ (z : ℕ). Follows N w′ z y′) (sym p)
+follows-at : {D : Digraph} {w w′ : List ℕ} {x x′ y y′ : ℕ} → mark w′ x ≡ mark w x → x′ ≡ x → y′ ≡ y → Follows D w x y → Follows D w′ x′ y′
+follows-at {D} {w} {w′} {x} {x′} {y} {y′} m p q follows =
+    subst (λ (z : ℕ). Follows D w′ z y′) (sym p)
     (record {
       more = omega (arith, follows .more);
-      leads = ap (λ (k : ℕ). N .next x (k - 1)) m ∙ follows .leads ∙ sym q;
+      leads = ap (λ (k : ℕ). D .next x (k - 1)) m ∙ follows .leads ∙ sym q;
     })
 
--- What a raised mark leaves of the path up to `depth`, if the raised number is not on it, or stays unfinished.
-module _ {N : Net} {before depth x m : ℕ} {w w′ : List ℕ} (S : Search N w before) (within : depth ≤ before) (R : Raised N before x m w w′) where
-  marks-on-path : (k : ℕ) → k < depth → (onPath N w k ≡ x → ⊥) → mark w′ (onPath N w′ k) ≡ mark w (onPath N w k)
+-- What a raised mark leaves of the path up to `depth`, if the raised vertex is not on it, or stays unfinished.
+module _ {D : Digraph} {before depth x m : ℕ} {w w′ : List ℕ} (S : Search D w before) (within : depth ≤ before) (R : Raised D before x m w w′) where
+  marks-on-path : (k : ℕ) → k < depth → (onPath D w k ≡ x → ⊥) → mark w′ (onPath D w′ k) ≡ mark w (onPath D w k)
   marks-on-path k h other =
-      ap (mark w′) (R .path k (omega arith)) ∙ R .others (onPath N w k) (S .inside k (omega arith)) other
+      ap (mark w′) (R .path k (omega arith)) ∙ R .others (onPath D w k) (S .inside k (omega arith)) other
 
-  seen′ : ((i : ℕ) → i < N .count x → mark w x ≤ i + 1 → i + 1 < m → Safe N (N .next x i))
-      → (z i : ℕ) → z < N .size → i < N .count z → i + 1 < mark w′ z → Safe N (N .next z i)
+  seen′ : ((i : ℕ) → i < D .count x → mark w x ≤ i + 1 → i + 1 < m → Safe D (D .next x i))
+      → (z i : ℕ) → z < D .size → i < D .count z → i + 1 < mark w′ z → Safe D (D .next z i)
   seen′ passed z i h j k = go (ℕ-discrete z x)
     where
-      at-x : (i < N .count x) → (i + 1 < m) → Dec (i + 1 < mark w x) → Safe N (N .next x i)
+      at-x : (i < D .count x) → (i + 1 < m) → Dec (i + 1 < mark w x) → Safe D (D .next x i)
       at-x j k (yes l) = S .seen x i (R .inside) j l
       at-x j k (no l) = passed i j (omega arith) k
 
-      go : Dec (z ≡ x) → Safe N (N .next z i)
+      go : Dec (z ≡ x) → Safe D (D .next z i)
       go (yes e) =
-          subst (λ (y : ℕ). Safe N (N .next y i)) (sym e)
-          (at-x (omega (arith, ap (N .count) e)) (omega (arith, ap (mark w′) e, R .new)) (decLt (i + 1) (mark w x)))
+          subst (λ (y : ℕ). Safe D (D .next y i)) (sym e)
+          (at-x (omega (arith, ap (D .count) e)) (omega (arith, ap (mark w′) e, R .new)) (decLt (i + 1) (mark w x)))
       go (no e) = S .seen z i h j (omega (arith, R .others z h e))
 
-  inside′ : (k : ℕ) → k < depth → onPath N w′ k < N .size
+  inside′ : (k : ℕ) → k < depth → onPath D w′ k < D .size
   inside′ k h = omega (arith, R .path k (omega arith), S .inside k (omega arith))
 
-  begun′ : (k : ℕ) → k < depth → 0 < mark w′ (onPath N w′ k)
-  begun′ k h = omega (arith, ap (mark w′) (R .path k (omega arith)), raised-grown R .marks (onPath N w k) (S .inside k (omega arith)), S .begun k (omega arith))
+  begun′ : (k : ℕ) → k < depth → 0 < mark w′ (onPath D w′ k)
+  begun′ k h = omega (arith, ap (mark w′) (R .path k (omega arith)), raised-grown R .marks (onPath D w k) (S .inside k (omega arith)), S .begun k (omega arith))
 
-  linked′ : (k : ℕ) → k + 1 < depth → (onPath N w k ≡ x → ⊥) → Follows N w′ (onPath N w′ k) (onPath N w′ (k + 1))
+  linked′ : (k : ℕ) → k + 1 < depth → (onPath D w k ≡ x → ⊥) → Follows D w′ (onPath D w′ k) (onPath D w′ (k + 1))
   linked′ k h other =
-      follows-at (R .others (onPath N w k) (S .inside k (omega arith)) other) (R .path k (omega arith)) (R .path (k + 1) (omega arith)) (S .linked k (omega arith))
+      follows-at (R .others (onPath D w k) (S .inside k (omega arith)) other) (R .path k (omega arith)) (R .path (k + 1) (omega arith)) (S .linked k (omega arith))
 
-  distinct′ : (j k : ℕ) → j < k → k < depth → onPath N w′ j ≡ onPath N w′ k → ⊥
+  distinct′ : (j k : ℕ) → j < k → k < depth → onPath D w′ j ≡ onPath D w′ k → ⊥
   distinct′ j k h i e = S .distinct j k h (omega arith) (sym (R .path j (omega arith)) ∙ e ∙ R .path k (omega arith))
 
--- The search went on and has `depth` numbers on the path.
-pub record Moved (N : Net) (before after : List ℕ) (depth : ℕ) : Type 0 where
-  pub search : Search N after depth
-  pub grown : Grown N before after
-  pub less : left N after < left N before
+-- The search went on and has `depth` vertices on the path.
+pub record Moved (D : Digraph) (before after : List ℕ) (depth : ℕ) : Type 0 where
+  pub search : Search D after depth
+  pub grown : Grown D before after
+  pub less : left D after < left D before
 
--- Ways were passed over: the path is as it was, and marks can be raised by no more than before.
-pub record Advanced (N : Net) (before after : List ℕ) (depth : ℕ) : Type 0 where
-  pub search : Search N after depth
-  pub grown : Grown N before after
-  pub at-most : left N after ≤ left N before
+-- Edges were passed over: the path is as it was, and marks can be raised by no more than before.
+pub record Advanced (D : Digraph) (before after : List ℕ) (depth : ℕ) : Type 0 where
+  pub search : Search D after depth
+  pub grown : Grown D before after
+  pub at-most : left D after ≤ left D before
 
--- From a finished number every walk ends.
-pub finished-safe : {N : Net} {w : List ℕ} {depth : ℕ} → Search N w depth → (x : ℕ) → x < N .size → mark w x ≡ finishedMark → Safe N x
-finished-safe {N} {w} S x h m =
-    safe (λ y way. subst (λ (z : ℕ). Safe N z) (way .2) (S .seen x (way .0) h (way .1) (omega (arith, way .1, S .few-ways x))))
+-- From a finished vertex every walk ends.
+pub finished-safe : {D : Digraph} {w : List ℕ} {depth : ℕ} → Search D w depth → (x : ℕ) → x < D .size → mark w x ≡ finishedMark → Safe D x
+finished-safe {D} {w} S x h m =
+    safe (λ y edge. subst (λ (z : ℕ). Safe D z) (edge .2) (S .seen x (edge .0) h (edge .1) (omega (arith, edge .1, S .few-edges x))))
 
-module _ {N : Net} {w : List ℕ} {depth : ℕ} (S : Search N w depth) where
-  -- The number at the end of the path has passed over all its ways: it is finished, and leaves the path.
-  pub finish : (x : ℕ) → 0 < depth → onPath N w (depth - 1) ≡ x
-      → ((i : ℕ) → i < N .count x → mark w x ≤ i + 1 → Safe N (N .next x i)) → Moved N w (set w x finishedMark) (depth - 1)
+module _ {D : Digraph} {w : List ℕ} {depth : ℕ} (S : Search D w depth) where
+  -- The vertex at the end of the path has passed over all its edges: it is finished, and leaves the path.
+  pub finish : (x : ℕ) → 0 < depth → onPath D w (depth - 1) ≡ x
+      → ((i : ℕ) → i < D .count x → mark w x ≤ i + 1 → Safe D (D .next x i)) → Moved D w (set w x finishedMark) (depth - 1)
   finish x some end all =
       record {
         search = record {
           room = omega (arith, S .room, R .long);
-          few-ways = S .few-ways;
+          few-edges = S .few-edges;
           few = omega (arith, S .few, raised-begun R begun);
           seen = seen′ S within R (λ i h old new. all i h old);
           inside = inside′ S within R;
@@ -98,7 +98,7 @@ module _ {N : Net} {w : List ℕ} {depth : ℕ} (S : Search N w depth) where
       within : depth - 1 ≤ depth
       within = omega arith
 
-      inside : x < N .size
+      inside : x < D .size
       inside = omega (arith, S .inside (depth - 1) (omega arith))
 
       begun : 0 < mark w x
@@ -107,22 +107,22 @@ module _ {N : Net} {w : List ℕ} {depth : ℕ} (S : Search N w depth) where
       unfinished : mark w x < finishedMark
       unfinished = omega (arith, S .unfinished (depth - 1) (omega arith), ap (mark w) end)
 
-      R : Raised N depth x finishedMark w w′
-      R = raised-mark N depth x w inside (S .room) finishedMark (omega (arith, unfinished))
+      R : Raised D depth x finishedMark w w′
+      R = raised-mark D depth x w inside (S .room) finishedMark (omega (arith, unfinished))
 
-      other : (k : ℕ) → k < depth - 1 → onPath N w k ≡ x → ⊥
+      other : (k : ℕ) → k < depth - 1 → onPath D w k ≡ x → ⊥
       other k h e = S .distinct k (depth - 1) h (omega arith) (e ∙ sym end)
 
-      whole′ : (z : ℕ) → z < N .size → 0 < mark w′ z → (mark w′ z ≡ finishedMark → ⊥) → Dec (z ≡ x)
-          → (k : ℕ) × (k < depth - 1) × (onPath N w′ k ≡ z)
+      whole′ : (z : ℕ) → z < D .size → 0 < mark w′ z → (mark w′ z ≡ finishedMark → ⊥) → Dec (z ≡ x)
+          → (k : ℕ) × (k < depth - 1) × (onPath D w′ k ≡ z)
       whole′ z h b u (yes e) = absurd (u (ap (mark w′) e ∙ R .new))
       whole′ z h b u (no e) = shorter (S .whole z h (omega (arith, R .others z h e)) (λ f. u (R .others z h e ∙ f)))
         where
-          shorter : (k : ℕ) × (k < depth) × (onPath N w k ≡ z) → (k : ℕ) × (k < depth - 1) × (onPath N w′ k ≡ z)
+          shorter : (k : ℕ) × (k < depth) × (onPath D w k ≡ z) → (k : ℕ) × (k < depth - 1) × (onPath D w′ k ≡ z)
           shorter p = (p .0, before, R .path (p .0) (p .1) ∙ p .2)
             where
               last : p .0 ≡ depth - 1 → z ≡ x
-              last q = sym (p .2) ∙ ap (onPath N w) q ∙ end
+              last q = sym (p .2) ∙ ap (onPath D w) q ∙ end
 
               before : p .0 < depth - 1
               before = go (ℕ-discrete (p .0) (depth - 1))
@@ -131,19 +131,19 @@ module _ {N : Net} {w : List ℕ} {depth : ℕ} (S : Search N w depth) where
                   go (yes q) = absurd (e (last q))
                   go (no q) = omega (arith, p .1)
 
-  -- The number at the end of the path has passed over its ways before the one at place i.
-  pub advance : (x i : ℕ) → 0 < depth → onPath N w (depth - 1) ≡ x → mark w x ≤ i + 1 → i < N .count x
-      → ((k : ℕ) → mark w x ≤ k + 1 → k < i → Safe N (N .next x k)) → Advanced N w (set w x (i + 1)) depth
+  -- The vertex at the end of the path has passed over its edges before the one at place i.
+  pub advance : (x i : ℕ) → 0 < depth → onPath D w (depth - 1) ≡ x → mark w x ≤ i + 1 → i < D .count x
+      → ((k : ℕ) → mark w x ≤ k + 1 → k < i → Safe D (D .next x k)) → Advanced D w (set w x (i + 1)) depth
   advance x i some end old more over =
       record {
         search = record {
           room = omega (arith, S .room, R .long);
-          few-ways = S .few-ways;
+          few-edges = S .few-edges;
           few = omega (arith, S .few, raised-begun R begun);
           seen = seen′ S within R (λ k h before new. over k before (omega arith));
           inside = inside′ S within R;
           begun = begun′ S within R;
-          unfinished = λ k h. unfinished′ k h (ℕ-discrete (onPath N w k) x);
+          unfinished = λ k h. unfinished′ k h (ℕ-discrete (onPath D w k) x);
           linked = λ k h. linked′ S within R k h (other k h);
           distinct = distinct′ S within R;
           whole = λ z h b u. whole′ z h b u (ℕ-discrete z x);
@@ -158,45 +158,45 @@ module _ {N : Net} {w : List ℕ} {depth : ℕ} (S : Search N w depth) where
       within : depth ≤ depth
       within = omega arith
 
-      inside : x < N .size
+      inside : x < D .size
       inside = omega (arith, S .inside (depth - 1) (omega arith))
 
       begun : 0 < mark w x
       begun = omega (arith, S .begun (depth - 1) (omega arith), ap (mark w) end)
 
-      R : Raised N depth x (i + 1) w w′
-      R = raised-mark N depth x w inside (S .room) (i + 1) old
+      R : Raised D depth x (i + 1) w w′
+      R = raised-mark D depth x w inside (S .room) (i + 1) old
 
-      other : (k : ℕ) → k + 1 < depth → onPath N w k ≡ x → ⊥
+      other : (k : ℕ) → k + 1 < depth → onPath D w k ≡ x → ⊥
       other k h e = S .distinct k (depth - 1) (omega arith) (omega arith) (e ∙ sym end)
 
-      unfinished′ : (k : ℕ) → k < depth → Dec (onPath N w k ≡ x) → mark w′ (onPath N w′ k) < finishedMark
+      unfinished′ : (k : ℕ) → k < depth → Dec (onPath D w k ≡ x) → mark w′ (onPath D w′ k) < finishedMark
       unfinished′ k h (yes e) =
-          let here : onPath N w′ k ≡ x = R .path k h ∙ e in
-          omega (arith, R .new, ap (mark w′) here, S .few-ways x)
+          let here : onPath D w′ k ≡ x = R .path k h ∙ e in
+          omega (arith, R .new, ap (mark w′) here, S .few-edges x)
       unfinished′ k h (no e) =
           omega (arith, marks-on-path S within R k h e, S .unfinished k h)
 
-      still : {z : ℕ} → (k : ℕ) × (k < depth) × (onPath N w k ≡ z) → (k : ℕ) × (k < depth) × (onPath N w′ k ≡ z)
+      still : {z : ℕ} → (k : ℕ) × (k < depth) × (onPath D w k ≡ z) → (k : ℕ) × (k < depth) × (onPath D w′ k ≡ z)
       still p = (p .0, p .1, R .path (p .0) (p .1) ∙ p .2)
 
-      whole′ : (z : ℕ) → z < N .size → 0 < mark w′ z → (mark w′ z ≡ finishedMark → ⊥) → Dec (z ≡ x)
-          → (k : ℕ) × (k < depth) × (onPath N w′ k ≡ z)
+      whole′ : (z : ℕ) → z < D .size → 0 < mark w′ z → (mark w′ z ≡ finishedMark → ⊥) → Dec (z ≡ x)
+          → (k : ℕ) × (k < depth) × (onPath D w′ k ≡ z)
       whole′ z h b u (yes e) = still (depth - 1, omega arith, end ∙ sym e)
       whole′ z h b u (no e) = still (S .whole z h (omega (arith, R .others z h e)) (λ f. u (R .others z h e ∙ f)))
 
-  -- the path has room for a new number
-  pub path-room : (y : ℕ) → y < N .size → mark w y ≡ 0 → depth < N .size
-  path-room y inside fresh = omega (arith, total-part (λ x m. 1 - m) w y (N .size) inside, S .few)
+  -- the path has room for a new vertex
+  pub path-room : (y : ℕ) → y < D .size → mark w y ≡ 0 → depth < D .size
+  path-room y inside fresh = omega (arith, total-part (λ x m. 1 - m) w y (D .size) inside, S .few)
 
-  -- A new number, to which the end of the path leads if there is one, is begun.
-  pub begin : (y : ℕ) → y < N .size → mark w y ≡ 0 → (0 < depth → Follows N w (onPath N w (depth - 1)) y)
-      → Moved N w (set (set w y 1) (N .size + depth) y) (depth + 1)
+  -- A new vertex, to which the end of the path leads if there is one, is begun.
+  pub begin : (y : ℕ) → y < D .size → mark w y ≡ 0 → (0 < depth → Follows D w (onPath D w (depth - 1)) y)
+      → Moved D w (set (set w y 1) (D .size + depth) y) (depth + 1)
   begin y inside fresh follows =
       record {
         search = record {
           room = omega (arith, S .room, R .long);
-          few-ways = S .few-ways;
+          few-edges = S .few-edges;
           few = omega (arith, S .few, raised-new R fresh (omega arith));
           seen = seen′ S within R (λ i h old new. absurd (omega arith));
           inside = λ k h. inside″ k (decLt k depth) h;
@@ -211,50 +211,50 @@ module _ {N : Net} {w : List ℕ} {depth : ℕ} (S : Search N w depth) where
       }
     where
       w′ : List ℕ
-      w′ = set (set w y 1) (N .size + depth) y
+      w′ = set (set w y 1) (D .size + depth) y
 
       within : depth ≤ depth
       within = omega arith
 
-      R : Raised N depth y 1 w w′
-      R = raised-push N depth y w inside (S .room) (path-room y inside fresh) fresh
+      R : Raised D depth y 1 w w′
+      R = raised-push D depth y w inside (S .room) (path-room y inside fresh) fresh
 
-      last : onPath N w′ depth ≡ y
-      last = pushed N depth y w inside (S .room) (path-room y inside fresh)
+      last : onPath D w′ depth ≡ y
+      last = pushed D depth y w inside (S .room) (path-room y inside fresh)
 
-      at-last : (k : ℕ) → (k < depth → ⊥) → k < depth + 1 → onPath N w′ k ≡ y
-      at-last k n h = ap (onPath N w′) (omega arith) ∙ last
+      at-last : (k : ℕ) → (k < depth → ⊥) → k < depth + 1 → onPath D w′ k ≡ y
+      at-last k n h = ap (onPath D w′) (omega arith) ∙ last
 
-      other : (k : ℕ) → k < depth → onPath N w k ≡ y → ⊥
+      other : (k : ℕ) → k < depth → onPath D w k ≡ y → ⊥
       other k h e = omega (arith, S .begun k h, ap (mark w) e)
 
-      inside″ : (k : ℕ) → Dec (k < depth) → k < depth + 1 → onPath N w′ k < N .size
+      inside″ : (k : ℕ) → Dec (k < depth) → k < depth + 1 → onPath D w′ k < D .size
       inside″ k (yes l) h = inside′ S within R k l
       inside″ k (no l) h = omega (arith, at-last k l h)
 
-      begun″ : (k : ℕ) → Dec (k < depth) → k < depth + 1 → 0 < mark w′ (onPath N w′ k)
+      begun″ : (k : ℕ) → Dec (k < depth) → k < depth + 1 → 0 < mark w′ (onPath D w′ k)
       begun″ k (yes l) h = begun′ S within R k l
       begun″ k (no l) h = omega (arith, ap (mark w′) (at-last k l h), R .new)
 
-      unfinished″ : (k : ℕ) → Dec (k < depth) → k < depth + 1 → mark w′ (onPath N w′ k) < finishedMark
+      unfinished″ : (k : ℕ) → Dec (k < depth) → k < depth + 1 → mark w′ (onPath D w′ k) < finishedMark
       unfinished″ k (yes l) h = omega (arith, marks-on-path S within R k l (other k l), S .unfinished k l)
       unfinished″ k (no l) h = omega (arith, ap (mark w′) (at-last k l h), R .new)
 
-      linked″ : (k : ℕ) → Dec (k + 1 < depth) → k + 1 < depth + 1 → Follows N w′ (onPath N w′ k) (onPath N w′ (k + 1))
+      linked″ : (k : ℕ) → Dec (k + 1 < depth) → k + 1 < depth + 1 → Follows D w′ (onPath D w′ k) (onPath D w′ (k + 1))
       linked″ k (yes l) h = linked′ S within R k l (other k (omega arith))
       linked″ k (no l) h =
-          let end : onPath N w k ≡ onPath N w (depth - 1) = ap (onPath N w) (omega arith) in
-          follows-at (R .others (onPath N w (depth - 1)) (S .inside (depth - 1) (omega arith)) (other (depth - 1) (omega arith)))
+          let end : onPath D w k ≡ onPath D w (depth - 1) = ap (onPath D w) (omega arith) in
+          follows-at (R .others (onPath D w (depth - 1)) (S .inside (depth - 1) (omega arith)) (other (depth - 1) (omega arith)))
           (R .path k (omega arith) ∙ end) (at-last (k + 1) l h) (follows (omega arith))
 
-      distinct″ : (j k : ℕ) → j < k → k < depth + 1 → onPath N w′ j ≡ onPath N w′ k → Dec (k < depth) → ⊥
+      distinct″ : (j k : ℕ) → j < k → k < depth + 1 → onPath D w′ j ≡ onPath D w′ k → Dec (k < depth) → ⊥
       distinct″ j k h i e (yes l) = distinct′ S within R j k h l e
       distinct″ j k h i e (no l) = other j (omega arith) (sym (R .path j (omega arith)) ∙ e ∙ at-last k l i)
 
-      whole″ : (z : ℕ) → z < N .size → 0 < mark w′ z → (mark w′ z ≡ finishedMark → ⊥) → Dec (z ≡ y)
-          → (k : ℕ) × (k < depth + 1) × (onPath N w′ k ≡ z)
+      whole″ : (z : ℕ) → z < D .size → 0 < mark w′ z → (mark w′ z ≡ finishedMark → ⊥) → Dec (z ≡ y)
+          → (k : ℕ) × (k < depth + 1) × (onPath D w′ k ≡ z)
       whole″ z h b u (yes e) = (depth, omega arith, last ∙ sym e)
       whole″ z h b u (no e) = longer (S .whole z h (omega (arith, R .others z h e)) (λ f. u (R .others z h e ∙ f)))
         where
-          longer : (k : ℕ) × (k < depth) × (onPath N w k ≡ z) → (k : ℕ) × (k < depth + 1) × (onPath N w′ k ≡ z)
+          longer : (k : ℕ) × (k < depth) × (onPath D w k ≡ z) → (k : ℕ) × (k < depth + 1) × (onPath D w′ k ≡ z)
           longer p = (p .0, omega (arith, p .1), R .path (p .0) (p .1) ∙ p .2)

@@ -10,28 +10,28 @@ use native.Mathlib.Omega.{arith}
 use lib.ListN.{length, getD, set, drop, replicate}
 use Rattle.rows.proofs.Laws.{behind-cleared, cleared-zero}
 use Rattle.graphs.specs.Partition.{entry}
-use Rattle.cycles.specs.Net.{Net, Way, netOf, Searchable, Searched}
-use Rattle.cycles.specs.Marks.{Ready, mark, Safe, Search, Grown, Stopped, Ended, Rooted, Visited, Told}
+use Rattle.cycles.specs.Digraph.{Digraph, Edge, digraphOf, Searchable, Searched}
+use Rattle.cycles.specs.Marks.{SearchableRows, mark, Safe, Search, Grown, FoundCycle, Ended, FromRoot, Visited, Told}
 use Rattle.cycles.proofs.Stores.{grown-none, grown-join}
 use Rattle.cycles.proofs.Answers.{start, none, begun-safe}
 use Rattle.cycles.proofs.Turns.{Turned, started-at, end-begun}
 
 -- ---- one root
 
-pub stopped-later : {N : Net} {u v w : List ℕ} → Grown N u v → Stopped N v w → Stopped N u w
+pub stopped-later : {D : Digraph} {u v w : List ℕ} → Grown D u v → FoundCycle D v w → FoundCycle D u w
 stopped-later g s = record { cycle = s .cycle; behind = s .behind ∙ g .behind }
 
-module _ {N : Net} {w w′ : List ℕ} {root : ℕ} (S : Search N w 0) (inside : root < N .size) (fresh : mark w root ≡ 0)
-    (stored : w′ ≡ set (set w root 1) (N .size + 0) root) where
-  pub rooted : Turned N w w′ 1 root 0
+module _ {D : Digraph} {w w′ : List ℕ} {root : ℕ} (S : Search D w 0) (inside : root < D .size) (fresh : mark w root ≡ 0)
+    (stored : w′ ≡ set (set w root 1) (D .size + 0) root) where
+  pub rooted : Turned D w w′ 1 root 0
   rooted =
-      subst (λ (v : List ℕ). Turned N w v 1 root 0) (sym stored) (started-at S root inside fresh (λ some. absurd (omega arith)))
+      subst (λ (v : List ℕ). Turned D w v 1 root 0) (sym stored) (started-at S root inside fresh (λ some. absurd (omega arith)))
 
   root-begun : 0 < mark w′ root
   root-begun = end-begun (rooted .going .search) (omega arith) (rooted .going .end (omega arith))
 
   -- the path is empty again
-  pub ended : {w″ : List ℕ} {depth : ℕ} → Search N w″ depth → Grown N w′ w″ → depth ≤ 0 → Ended N w w″ (Safe N root)
+  pub ended : {w″ : List ℕ} {depth : ℕ} → Search D w″ depth → Grown D w′ w″ → depth ≤ 0 → Ended D w w″ (Safe D root)
   ended {w″} {depth} T g empty =
       record {
         search = empty-path;
@@ -39,38 +39,38 @@ module _ {N : Net} {w w′ : List ℕ} {root : ℕ} (S : Search N w 0) (inside :
         holds = begun-safe empty-path root inside (omega (arith, root-begun, g .marks root inside));
       }
     where
-      empty-path : Search N w″ 0
-      empty-path = subst (Search N w″) (omega arith) T
+      empty-path : Search D w″ 0
+      empty-path = subst (Search D w″) (omega arith) T
 
 -- ---- every name
 
-pub visited : (N : Net) (row before after : List ℕ) (x : ℕ) (found : Bool) → Rooted N before after x found → Visited N row before after x found
-visited N row before after x true stopped = stopped
-visited N row before after x false ended = record { search = ended .search; grown = ended .grown; holds = λ own. ended .holds }
+pub visited : (D : Digraph) (row before after : List ℕ) (x : ℕ) (found : Bool) → FromRoot D before after x found → Visited D row before after x found
+visited D row before after x true stopped = stopped
+visited D row before after x false ended = record { search = ended .search; grown = ended .grown; holds = λ own. ended .holds }
 
 -- x is passed over: every walk from it ends, or it is no name.
-pub passed-over : {N : Net} (row : List ℕ) {work : List ℕ} {x : ℕ} → Search N work 0 → (entry row x ≡ x → Safe N x)
-    → Visited N row work work x false
+pub passed-over : {D : Digraph} (row : List ℕ) {work : List ℕ} {x : ℕ} → Search D work 0 → (entry row x ≡ x → Safe D x)
+    → Visited D row work work x false
 passed-over row S ends = record { search = S; grown = grown-none; holds = ends }
 
 -- From all names below x every walk ends.
-pub record Swept (N : Net) (row before work : List ℕ) (x : ℕ) : Type 0 where
-  pub search : Search N work 0
-  pub grown : Grown N before work
-  pub within : x ≤ N .size
-  pub ends : (z : ℕ) → z < x → entry row z ≡ z → Safe N z
+pub record Swept (D : Digraph) (row before work : List ℕ) (x : ℕ) : Type 0 where
+  pub search : Search D work 0
+  pub grown : Grown D before work
+  pub within : x ≤ D .size
+  pub ends : (z : ℕ) → z < x → entry row z ≡ z → Safe D z
 
-pub swept-none : {N : Net} {row work : List ℕ} → Search N work 0 → Swept N row work work 0
+pub swept-none : {D : Digraph} {row work : List ℕ} → Search D work 0 → Swept D row work work 0
 swept-none S = record { search = S; grown = grown-none; within = omega arith; ends = λ z h own. absurd (omega arith) }
 
-module _ {N : Net} {row before work after : List ℕ} {x : ℕ} {found : Bool} (swept : Swept N row before work x) (inside : x < N .size)
-    (visit : Visited N row work after x found) where
-  pub visit-found : found ≡ true → Told N before after true
+module _ {D : Digraph} {row before work after : List ℕ} {x : ℕ} {found : Bool} (swept : Swept D row before work x) (inside : x < D .size)
+    (visit : Visited D row work after x found) where
+  pub visit-found : found ≡ true → Told D before after true
   visit-found e =
-      let stopped : Stopped N before after = stopped-later (swept .grown) (subst (Visited N row work after x) e visit) in
+      let stopped : FoundCycle D before after = stopped-later (swept .grown) (subst (Visited D row work after x) e visit) in
       record { truth = stopped .cycle; behind = stopped .behind }
 
-  pub visit-passed : found ≡ false → Swept N row before after (x + 1)
+  pub visit-passed : found ≡ false → Swept D row before after (x + 1)
   visit-passed e =
       record {
         search = ended .search;
@@ -79,32 +79,32 @@ module _ {N : Net} {row before work after : List ℕ} {x : ℕ} {found : Bool} (
         ends = λ z h own. go z h own (ℕ-discrete z x);
       }
     where
-      ended : Ended N work after (entry row x ≡ x → Safe N x)
-      ended = subst (Visited N row work after x) e visit
+      ended : Ended D work after (entry row x ≡ x → Safe D x)
+      ended = subst (Visited D row work after x) e visit
 
-      go : (z : ℕ) → z < x + 1 → entry row z ≡ z → Dec (z ≡ x) → Safe N z
-      go z h own (yes p) = subst (Safe N) (sym p) (ended .holds (sym (ap (entry row) p) ∙ own ∙ p))
+      go : (z : ℕ) → z < x + 1 → entry row z ≡ z → Dec (z ≡ x) → Safe D z
+      go z h own (yes p) = subst (Safe D) (sym p) (ended .holds (sym (ap (entry row) p) ∙ own ∙ p))
       go z h own (no p) = swept .ends z (omega arith) own
 
--- Ways lead to names alone: where every walk from a name ends, nothing is left to find.
-pub swept-all : {t row before work : List ℕ} {x : ℕ} → Ready t row → Swept (netOf t row) row before work x → length t ≤ x
-    → Told (netOf t row) before work false
+-- Edges lead to names alone: where every walk from a name ends, nothing is left to find.
+pub swept-all : {t row before work : List ℕ} {x : ℕ} → SearchableRows t row → Swept (digraphOf t row) row before work x → length t ≤ x
+    → Told (digraphOf t row) before work false
 swept-all {t} {row} {before} {work} {x} ready swept all =
     record {
-      truth = none (λ y z way. swept .ends z (omega (arith, inside y z way)) (named y z way));
+      truth = none (λ y z edge. swept .ends z (omega (arith, inside y z edge)) (named y z edge));
       behind = swept .grown .behind;
     }
   where
-    inside : (y z : ℕ) → Way (netOf t row) y z → z < length t
-    inside y z way = omega (arith, ready .name-inside y (way .0) (way .1), way .2)
+    inside : (y z : ℕ) → Edge (digraphOf t row) y z → z < length t
+    inside y z edge = omega (arith, ready .name-inside y (edge .0) (edge .1), edge .2)
 
-    named : (y z : ℕ) → Way (netOf t row) y z → entry row z ≡ z
-    named y z way = subst (λ (u : ℕ). entry row u ≡ u) (way .2) (ready .name-own y (way .0) (way .1))
+    named : (y z : ℕ) → Edge (digraphOf t row) y z → entry row z ≡ z
+    named y z edge = subst (λ (u : ℕ). entry row u ≡ u) (edge .2) (ready .name-own y (edge .0) (edge .1))
 
 -- ---- the whole
 
 module _ {t row : List ℕ} (work : List ℕ) (asked : Searchable t row (length work)) where
-  pub ready : Ready t row
+  pub ready : SearchableRows t row
   ready =
       record {
         small = asked .small;
@@ -118,15 +118,15 @@ module _ {t row : List ℕ} (work : List ℕ) (asked : Searchable t row (length 
       }
 
   -- after the first clearing
-  pub started : {work′ : List ℕ} → work′ ≡ replicate (length t) 0 ++ drop (length t) work → length work′ ≡ length work → Search (netOf t row) work′ 0
+  pub started : {work′ : List ℕ} → work′ ≡ replicate (length t) 0 ++ drop (length t) work → length work′ ≡ length work → Search (digraphOf t row) work′ 0
   started {work′} cleared long =
-      start (netOf t row) work′ (omega (arith, asked .work-enough)) (asked .counts)
+      start (digraphOf t row) work′ (omega (arith, asked .work-enough)) (asked .counts)
       (λ x h.
       ap (λ (v : List ℕ). getD v x 0) cleared ∙ cleared-zero work (length t) x h)
 
 -- after the last one
 pub searched : {t row u v w x : List ℕ} {answer : Bool} → v ≡ replicate (length t) 0 ++ drop (length t) u
-    → Told (netOf t row) v w answer → x ≡ replicate (2 * length t) 0 ++ drop (2 * length t) w → Searched t row u answer x
+    → Told (digraphOf t row) v w answer → x ≡ replicate (2 * length t) 0 ++ drop (2 * length t) w → Searched t row u answer x
 searched {t} {row} {u} {v} first told last =
     record {
       truth = told .truth;

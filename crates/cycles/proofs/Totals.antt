@@ -5,12 +5,12 @@ use mathlib.Core.List.{List}
 use Prim.Native.Nat.{ℕ, zero, suc, _+_, _-_, _≤_, _<_}
 use native.Mathlib.Decide.{ℕ-discrete}
 use native.Mathlib.Omega.{arith}
-use Rattle.cycles.specs.Net.{Net}
+use Rattle.cycles.specs.Digraph.{Digraph}
 use Rattle.cycles.specs.Marks.{mark, finishedMark, total}
 
 -- by how much marks can still be raised
-abbrev pub left : Net → List ℕ → ℕ
-left N work = total (λ x m. finishedMark - m) work (N .size)
+abbrev pub left : Digraph → List ℕ → ℕ
+left D work = total (λ x m. finishedMark - m) work (D .size)
 
 module _ (f : ℕ → ℕ → ℕ) (w w′ : List ℕ) where
   total-same : (k : ℕ) → ((z : ℕ) → z < k → mark w′ z ≡ mark w z) → total f w′ k ≡ total f w k

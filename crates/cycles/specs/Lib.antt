@@ -1,3 +1,3 @@
--- What a reader must believe of the search for cycles (Net), and what its private steps promise each other (Marks).
-pub mod Net
+-- What a reader must believe of the search for cycles (Digraph), and what its private steps promise each other (Marks).
+pub mod Digraph
 pub mod Marks

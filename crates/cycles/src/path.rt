@@ -3,12 +3,12 @@ ghost use mathlib.Core.Path.{_≡_};
 ghost use Prim.Native.Nat.{_+_, _-_, _<_, _≤_};
 ghost use lib.ListN.{length, getD, set};
 ghost use Rattle.table.specs.Table.{degree};
-ghost use Rattle.cycles.specs.Net.{netOf};
-ghost use Rattle.cycles.specs.Marks.{Ready, Open, Sure, Passed, finishedMark, mark};
+ghost use Rattle.cycles.specs.Digraph.{digraphOf};
+ghost use Rattle.cycles.specs.Marks.{SearchableRows, Open, Sure, Passed, finishedMark, mark};
 use crate::reads;
 
-// The mark of a finished number. No number on the path has it: there a mark is 1 + the ways passed
-// over, and a number has 255 ways at most.
+// The mark of a finished vertex. No vertex on the path has it: there a mark is 1 + the edges passed
+// over, and a vertex has 255 edges at most.
 const FINISHED: usize = 257;
 
 // Marks x as begun, and puts it on the path at a depth, behind n marks.
@@ -20,7 +20,7 @@ pub fn push(work: &mut [u16], n: usize, depth: usize, x: usize)
     reads::put(work, n + depth, x);
 }
 
-// Goes down the way at place j of x, the end of the path, to y. The ways before it are passed over.
+// Goes down the edge at place j of x, the end of the path, to y. The edges before it are passed over.
 pub fn follow(work: &mut [u16], n: usize, depth: usize, x: usize, j: usize, y: usize)
     requires { ⌜ (n + depth < length (now work)) × (x < n) × (j < 256) × (y < n) × (n ≤ 4096) ⌝ }
     ensures { λ _. ⌜ now (work .exit) ≡ set (set (set (now (work .entry)) x (j + 1)) y 1) (n + depth) y ⌝ }
@@ -45,19 +45,19 @@ pub fn finish(work: &mut [u16], x: usize)
     reads::put(work, x, FINISHED);
 }
 
-// Whether there is something to look for from y: it can have ways, and is not finished.
+// Whether there is something to look for from y: it can have edges, and is not finished.
 fn is_open(table: &[u32], work: &[u16], y: usize) -> bool
     requires { ⌜ (length (now table) ≤ 4096) × (y < length (now table)) × (length (now table) ≤ length (now work)) ⌝ }
     ensures { λ r. ⌜ Open (degree (now (table .entry)) y) (mark (now (work .entry)) y) r ⌝ }
 {
-    if !reads::has_ways(table, y) {
+    if !reads::has_edges(table, y) {
         return false;
     }
     reads::at(work, y) != FINISHED
 }
 
-// The first way of x, from the i-th on, that leads to an open number; or the count of x's ways. It
-// writes nothing, so a way that is passed over costs no turn of the search.
+// The first edge of x, from the i-th on, that leads to an open vertex; or the count of x's edges. It
+// writes nothing, so an edge that is passed over costs no turn of the search.
 pub fn pass_over(
     table: &[u32],
     class: &[u16],
@@ -66,8 +66,8 @@ pub fn pass_over(
     i: usize,
     count: usize,
 ) -> usize
-    requires { ⌜ Ready (now table) (now class) × Sure (netOf (now table) (now class)) (now work) × (x < length (now table)) × (count ≡ degree (now table) x) × (i ≤ count) ⌝ }
-    ensures { λ r. ⌜ Passed (netOf (now (table .entry)) (now (class .entry))) (now (work .entry)) x i r ⌝ }
+    requires { ⌜ SearchableRows (now table) (now class) × Sure (digraphOf (now table) (now class)) (now work) × (x < length (now table)) × (count ≡ degree (now table) x) × (i ≤ count) ⌝ }
+    ensures { λ r. ⌜ Passed (digraphOf (now (table .entry)) (now (class .entry))) (now (work .entry)) x i r ⌝ }
 {
     let mut j = i;
     while j < count {

@@ -1,4 +1,4 @@
-// The rows and the net, in numbers of one width.
+// The rows and the digraph, in numbers of one width.
 ghost use mathlib.Core.Path.{_≡_};
 ghost use Prim.Native.Nat.{_<_, _≤_};
 ghost use lib.ListN.{length, getD, set};
@@ -23,23 +23,23 @@ pub fn put(row: &mut [u16], i: usize, v: usize)
     row[i] = v as u16;
 }
 
-// Whether x is a function: no way leads from anything else.
-pub fn has_ways(table: &[u32], x: usize) -> bool
+// Whether x is a function: no edge leads from anything else.
+pub fn has_edges(table: &[u32], x: usize) -> bool
     requires { ⌜ (length (now table) ≤ 4096) × (x < length (now table)) ⌝ }
     ensures { λ r. ⌜ r ≡ functionKind (kindAt (now (table .entry)) x) ⌝ }
 {
     node::is_function(table, Address(x as u16))
 }
 
-// How many ways lead from x.
-pub fn ways(table: &[u32], x: usize) -> usize
+// How many edges lead from x.
+pub fn edge_count(table: &[u32], x: usize) -> usize
     requires { ⌜ Laid (now table) × (length (now table) ≤ 4096) × (x < length (now table)) ⌝ }
     ensures { λ r. ⌜ r ≡ degree (now (table .entry)) x ⌝ }
 {
     node::degree(table, Address(x as u16)) as usize
 }
 
-// Where the i-th way from x leads: to the name of the class of x's child at place i.
+// Where the i-th edge from x leads: to the name of the class of x's child at place i.
 pub fn next(table: &[u32], class: &[u16], x: usize, i: usize) -> usize
     requires { ⌜ Laid (now table) × (length (now table) ≤ 4096) × (i < degree (now table) x) × (childOf (now table) x i < length (now class)) × (x < 4096) × (i < 256) ⌝ }
     ensures { λ r. ⌜ r ≡ entry (now (class .entry)) (childOf (now (table .entry)) x i) ⌝ }

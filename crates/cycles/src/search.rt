@@ -2,26 +2,26 @@
 ghost use mathlib.Core.Path.{_≡_};
 ghost use Prim.Native.Nat.{_<_};
 ghost use lib.ListN.{length};
-ghost use Rattle.cycles.specs.Net.{netOf, Searchable, Searched};
-ghost use Rattle.cycles.specs.Marks.{Ready, Search, Rooted, Visited, Told, mark};
+ghost use Rattle.cycles.specs.Digraph.{digraphOf, Searchable, Searched};
+ghost use Rattle.cycles.specs.Marks.{SearchableRows, Search, FromRoot, Visited, Told, mark};
 use crate::path;
 use crate::reads;
 
-// Whether a cycle is found from a new number. If not, every walk from it ends.
+// Whether a cycle is found from a new vertex. If not, every walk from it ends.
 //
-// The search has the end of its path in hand: x, and the place i of the way from which to go on. The
-// mark of each number before x is 1 + the place of the way that was followed from it. It is where to go
-// on once the search comes back: by then that way is known to be safe, and is not looked at again.
+// The search has the end of its path in hand: x, and the place i of the edge from which to go on. The
+// mark of each vertex before x is 1 + the place of the edge that was followed from it. It is where to go
+// on once the search comes back: by then that edge is known to be safe, and is not looked at again.
 fn from_root(table: &[u32], class: &[u16], work: &mut [u16], root: usize) -> bool
-    requires { ⌜ Ready (now table) (now class) × Search (netOf (now table) (now class)) (now work) 0 × (root < length (now table)) × (mark (now work) root ≡ 0) ⌝ }
-    ensures { λ r. ⌜ Rooted (netOf (now (table .entry)) (now (class .entry))) (now (work .entry)) (now (work .exit)) root r ⌝ }
+    requires { ⌜ SearchableRows (now table) (now class) × Search (digraphOf (now table) (now class)) (now work) 0 × (root < length (now table)) × (mark (now work) root ≡ 0) ⌝ }
+    ensures { λ r. ⌜ FromRoot (digraphOf (now (table .entry)) (now (class .entry))) (now (work .entry)) (now (work .exit)) root r ⌝ }
 {
     path::push(work, table.len(), 0, root);
     let mut depth = 1;
     let mut x = root;
     let mut i = 0;
     while 0 < depth {
-        let count = reads::ways(table, x);
+        let count = reads::edge_count(table, x);
         let j = path::pass_over(table, class, work, x, i, count);
         if j < count {
             let y = reads::next(table, class, x, j);
@@ -44,13 +44,13 @@ fn from_root(table: &[u32], class: &[u16], work: &mut [u16], root: usize) -> boo
     false
 }
 
-// The search from x, if x is a function, is new and is the name of its class. Ways lead to names
-// alone, so no cycle passes through any other number.
+// The search from x, if x is a function, is new and is the name of its class. Edges lead to names
+// alone, so no cycle passes through any other vertex.
 fn visit(table: &[u32], class: &[u16], work: &mut [u16], x: usize) -> bool
-    requires { ⌜ Ready (now table) (now class) × Search (netOf (now table) (now class)) (now work) 0 × (x < length (now table)) ⌝ }
-    ensures { λ r. ⌜ Visited (netOf (now (table .entry)) (now (class .entry))) (now (class .entry)) (now (work .entry)) (now (work .exit)) x r ⌝ }
+    requires { ⌜ SearchableRows (now table) (now class) × Search (digraphOf (now table) (now class)) (now work) 0 × (x < length (now table)) ⌝ }
+    ensures { λ r. ⌜ Visited (digraphOf (now (table .entry)) (now (class .entry))) (now (class .entry)) (now (work .entry)) (now (work .exit)) x r ⌝ }
 {
-    if !reads::has_ways(table, x) {
+    if !reads::has_edges(table, x) {
         return false;
     }
     if reads::at(work, x) != 0 {
@@ -64,8 +64,8 @@ fn visit(table: &[u32], class: &[u16], work: &mut [u16], x: usize) -> bool
 
 // The search from every name, with all marks at 0.
 fn from_each(table: &[u32], class: &[u16], work: &mut [u16]) -> bool
-    requires { ⌜ Ready (now table) (now class) × Search (netOf (now table) (now class)) (now work) 0 ⌝ }
-    ensures { λ r. ⌜ Told (netOf (now (table .entry)) (now (class .entry))) (now (work .entry)) (now (work .exit)) r ⌝ }
+    requires { ⌜ SearchableRows (now table) (now class) × Search (digraphOf (now table) (now class)) (now work) 0 ⌝ }
+    ensures { λ r. ⌜ Told (digraphOf (now (table .entry)) (now (class .entry))) (now (work .entry)) (now (work .exit)) r ⌝ }
 {
     let mut x = 0;
     while x < table.len() {

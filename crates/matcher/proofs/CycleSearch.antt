@@ -1,7 +1,7 @@
 -- The search for cycles, over a class row that holds a class table, finds the cycles of the partition.
 --
--- In order: entries of the row; it can be searched (`class-searchable`); a way of its net is a step of classes (`way-step`)
--- and, without a clash, a step of classes is a way between names (`step-way`); so what the search says is true of the
+-- In order: entries of the row; it can be searched (`class-searchable`); an edge of its digraph is a step of classes (`edge-step`)
+-- and, without a clash, a step of classes is an edge between names (`step-edge`); so what the search says is true of the
 -- partition (`search-tells`). Assumes nothing.
 use mathlib.Core.Path.{_≡_, sym, ap, _∙_, subst}
 use mathlib.Core.Bool.{Bool, true, false}
@@ -19,7 +19,7 @@ use Rattle.table.specs.Table.{graphOf, degree, childOf}
 use Rattle.table.specs.Shaped.{Shaped}
 use Rattle.table.proofs.Children.{kind-node, NamedChild, named-child, child-degree, degree-child}
 use Rattle.table.proofs.Shape.{shaped-laid, shaped-degree, shaped-child}
-use Rattle.cycles.specs.Net.{Way, netOf, Returns, Searchable}
+use Rattle.cycles.specs.Digraph.{Edge, digraphOf, Returns, Searchable}
 use Rattle.matcher.specs.Stages.{Cycles}
 
 module _ {t : List ℕ} (class : List ℕ) {pairs : List Pair} (shaped : Shaped t) (wf : WellFormed (graphOf t)) (sides : Sides (graphOf t) pairs) (table : ClassTable (graphOf t) pairs (take (length t) class)) (room : length t ≤ length class) where
@@ -57,10 +57,10 @@ module _ {t : List ℕ} (class : List ℕ) {pairs : List Pair} (shaped : Shaped 
         name-own = λ x i h. sym (one-name (with-name (child-there x i h)));
       }
 
-  -- ---- ways and steps
+  -- ---- edges and steps
 
-  way-step : (x y : ℕ) → Way (netOf t class) x y → ClassStep (graphOf t) pairs x y
-  way-step x y (i, h, e) =
+  edge-step : (x y : ℕ) → Edge (digraphOf t class) x y → ClassStep (graphOf t) pairs x y
+  edge-step x y (i, h, e) =
       let down : Child (graphOf t) x (childOf t x i) = degree-child t x i h in
       record {
         member = x;
@@ -70,15 +70,15 @@ module _ {t : List ℕ} (class : List ℕ) {pairs : List Pair} (shaped : Shaped 
         into = subst (Same (graphOf t) pairs (childOf t x i)) e (with-name (child-there x i h));
       }
 
-  child-way : {x y : ℕ} → Child (graphOf t) x y → Way (netOf t class) x (entry class y)
-  child-way {x} {y} d =
+  child-edge : {x y : ℕ} → Child (graphOf t) x y → Edge (digraphOf t class) x (entry class y)
+  child-edge {x} {y} d =
       let c : NamedChild t x y = named-child t x y d in
       (c .place, child-degree t c, ap (entry class) (c .is))
 
   module _ (no-clash : Clash (graphOf t) pairs → ⊥) where
     -- A step may go down from any member; the class's name has a child at the same place, in the same class.
-    step-way : {x y : ℕ} → ClassStep (graphOf t) pairs x y → Way (netOf t class) (entry class x) (entry class y)
-    step-way {x} {y} step =
+    step-edge : {x y : ℕ} → ClassStep (graphOf t) pairs x y → Edge (digraphOf t class) (entry class x) (entry class y)
+    step-edge {x} {y} step =
         let i : ℕ = step .down .0 in
         let d = step .down .1 in
         let m : Node (graphOf t) (step .member) = symbol-node (d .stands) in
@@ -87,14 +87,14 @@ module _ {t : List ℕ} (class : List ℕ) {pairs : List Pair} (shaped : Shaped 
         let within : i < length (named .0) = omega (arith, d .within, wf .counted (step .member) (d .named) (d .children) (d .stands), wf .counted (entry class (step .member)) (d .named) (named .0) there) in
         let beside : Same (graphOf t) pairs (getD (d .children) i 0) (getD (named .0) i 0) = placed (with-name m) (d .stands) there i (d .within) within in
         let into : entry class (getD (named .0) i 0) ≡ entry class y = sym (one-name beside) ∙ ap (entry class) (d .is) ∙ one-name (step .into) in
-        subst (λ (r : ℕ). Way (netOf t class) r (entry class y)) (sym (one-name (step .from)))
-        (subst (λ (r : ℕ). Way (netOf t class) (entry class (step .member)) r) into (child-way (child-at there i within)))
+        subst (λ (r : ℕ). Edge (digraphOf t class) r (entry class y)) (sym (one-name (step .from)))
+        (subst (λ (r : ℕ). Edge (digraphOf t class) (entry class (step .member)) r) into (child-edge (child-at there i within)))
 
-    steps-ways : {x y : ℕ} → Steps (ClassStep (graphOf t) pairs) x y → Steps (Way (netOf t class)) (entry class x) (entry class y)
-    steps-ways (one s) = one (step-way s)
-    steps-ways (more s rest) = more (step-way s) (steps-ways rest)
+    steps-edges : {x y : ℕ} → Steps (ClassStep (graphOf t) pairs) x y → Steps (Edge (digraphOf t class)) (entry class x) (entry class y)
+    steps-edges (one s) = one (step-edge s)
+    steps-edges (more s rest) = more (step-edge s) (steps-edges rest)
 
-    -- What the search answers on the net is the truth on the partition.
-    pub search-tells : (found : Bool) → Returns found (netOf t class) → Cycles found (graphOf t) pairs
-    search-tells true (x, s) = (x, steps-map way-step s)
-    search-tells false none-returns = λ c. none-returns (entry class (c .0)) (steps-ways (c .1))
+    -- What the search answers on the digraph is the truth on the partition.
+    pub search-tells : (found : Bool) → Returns found (digraphOf t class) → Cycles found (graphOf t) pairs
+    search-tells true (x, s) = (x, steps-map edge-step s)
+    search-tells false none-returns = λ c. none-returns (entry class (c .0)) (steps-edges (c .1))

@@ -19,7 +19,7 @@ use Rattle.table.specs.Table.{graphOf}
 use Rattle.table.specs.Answers.{Answered}
 use Rattle.table.specs.Faults.{pairsOf, Fault, number, matchOrder}
 use Rattle.checker.specs.Check.{zeroed}
-use Rattle.cycles.specs.Net.{Searchable, Searched}
+use Rattle.cycles.specs.Digraph.{Searchable, Searched}
 use Rattle.classes.specs.declared.joining.Joined.{Joined}
 use Rattle.classes.specs.Counting.{NamesNodes}
 use Rattle.classes.proofs.CountedJoins.{front-names-nodes}

@@ -1,17 +1,17 @@
--- `cycles::path::pass_over` meets its contract. The loop's invariant is `Over`: the ways so far lead to numbers from which every walk ends.
--- The measure is what is left of the ways. Assumes nothing.
+-- `cycles::path::pass_over` meets its contract. The loop's invariant is `Over`: the edges so far lead to vertices from which every walk ends.
+-- The measure is what is left of the edges. Assumes nothing.
 use Prim.Native.Nat.{_-_, _<_}
 use native.Mathlib.Omega.{arith}
 use borrow.Author.Needs.{needs}
 use Rattle.table.specs.Table.{degree}
-use Rattle.cycles.specs.Net.{netOf}
+use Rattle.cycles.specs.Digraph.{digraphOf}
 use Rattle.cycles.specs.Marks.{Over}
 use Rattle.cycles.proofs.Passing.{over-none, over-next, stops-here, over-all}
 use Rattle.cycles.proofs.path.pass_over.Statement.{statement}
 use Rattle.cycles.proofs.path.pass_over.Tie as tie
 
 abbrev Inv-loop : tie.InvT-loop
-Inv-loop table class work x i count j₀ j = Over (netOf table class) x i j
+Inv-loop table class work x i count j₀ j = Over (digraphOf table class) x i j
 
 abbrev μ-loop : tie.MeasureT-loop
 μ-loop table class work x i count j₀ j = count - j

@@ -4,13 +4,13 @@ use Prim.Native.Nat.{_-_}
 use native.Mathlib.Omega.{arith}
 use lib.ListN.{length}
 use borrow.Author.Needs.{needs}
-use Rattle.cycles.specs.Net.{netOf}
+use Rattle.cycles.specs.Digraph.{digraphOf}
 use Rattle.cycles.proofs.Roots.{Swept, swept-none, visit-found, visit-passed, swept-all}
 use Rattle.cycles.proofs.search.from_each.Statement.{statement}
 use Rattle.cycles.proofs.search.from_each.Tie as tie
 
 abbrev Inv-loop : tie.InvT-loop
-Inv-loop table class work₀ x₀ work x = Swept (netOf table class) class work₀ work x
+Inv-loop table class work₀ x₀ work x = Swept (digraphOf table class) class work₀ work x
 
 abbrev μ-loop : tie.MeasureT-loop
 μ-loop table class work₀ x₀ work x = length table - x

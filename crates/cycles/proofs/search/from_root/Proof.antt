@@ -5,7 +5,7 @@ use mathlib.Core.Path.{_≡_, sym, _∙_}
 use Prim.Native.Nat.{_<_}
 use native.Mathlib.Omega.{arith}
 use borrow.Author.Needs.{needs}
-use Rattle.cycles.specs.Net.{Net, netOf}
+use Rattle.cycles.specs.Digraph.{Digraph, digraphOf}
 use Rattle.cycles.specs.Marks.{mark, Grown}
 use Rattle.cycles.proofs.Totals.{left}
 use Rattle.cycles.proofs.Stores.{grown-none, grown-join}
@@ -18,12 +18,12 @@ use Rattle.cycles.proofs.search.from_root.Statement.{statement}
 use Rattle.cycles.proofs.search.from_root.Tie as tie
 
 abbrev Inv-loop : tie.InvT-loop
-Inv-loop table class work₀ root depth₀ x₀ i₀ work depth x i = Going (netOf table class) work depth x i × Grown (netOf table class) work₀ work
+Inv-loop table class work₀ root depth₀ x₀ i₀ work depth x i = Going (digraphOf table class) work depth x i × Grown (digraphOf table class) work₀ work
 
 abbrev μ-loop : tie.MeasureT-loop
-μ-loop table class work₀ root depth₀ x₀ i₀ work depth x i = left (netOf table class) work
+μ-loop table class work₀ root depth₀ x₀ i₀ work depth x i = left (digraphOf table class) work
 
--- ---- what a turn has in hand: the ways passed over, the way to follow, and x finished
+-- ---- what a turn has in hand: the edges passed over, the edge to follow, and x finished
 
 abbrev here : tie.After-pass-over Inv-loop μ-loop → tie.At-loop Inv-loop μ-loop
 here c = c .before .before .before .before
@@ -31,28 +31,28 @@ here c = c .before .before .before .before
 abbrev start : tie.After-pass-over Inv-loop μ-loop → tie.Start Inv-loop μ-loop
 start c = here c .before .before .before .before .before .before .before .before
 
-abbrev net : tie.After-pass-over Inv-loop μ-loop → Net
-net c = netOf (start c .args .table .now) (start c .args .class .now)
+abbrev digraph : tie.After-pass-over Inv-loop μ-loop → Digraph
+digraph c = digraphOf (start c .args .table .now) (start c .args .class .now)
 
 turn : (c : tie.After-pass-over Inv-loop μ-loop)
-    → Turning (net c) (here c .loop .work) (here c .loop .depth) (here c .loop .x) (c .pass-over .result)
+    → Turning (digraph c) (here c .loop .work) (here c .loop .depth) (here c .loop .x) (c .pass-over .result)
 turn c =
     let l : tie.In-loop Inv-loop μ-loop = search needs in
     turning (here c .loop .inv .0) (l .loop-test .taken) (c .pass-over .ensures)
 
-x-inside : (c : tie.After-pass-over Inv-loop μ-loop) → here c .loop .x < net c .size
+x-inside : (c : tie.After-pass-over Inv-loop μ-loop) → here c .loop .x < digraph c .size
 x-inside c = end-inside (turn c .search) (turn c .some) (turn c .end)
 
-more : (c : tie.Then1 Inv-loop μ-loop) → c .before .pass-over .result < net (c .before) .count (here (c .before) .loop .x)
+more : (c : tie.Then1 Inv-loop μ-loop) → c .before .pass-over .result < digraph (c .before) .count (here (c .before) .loop .x)
 more c =
-    let w : tie.After-ways Inv-loop μ-loop = search needs in
-    omega (arith, c .if1 .taken, w .ways .ensures)
+    let w : tie.After-edge-count Inv-loop μ-loop = search needs in
+    omega (arith, c .if1 .taken, w .edge-count .ensures)
 
 abbrev passed : tie.After-next Inv-loop μ-loop → tie.After-pass-over Inv-loop μ-loop
 passed c = c .before .before
 
 facing : (c : tie.After-next Inv-loop μ-loop)
-    → Facing (net (passed c)) (here (passed c) .loop .work) (here (passed c) .loop .depth) (here (passed c) .loop .x) (passed c .pass-over .result)
+    → Facing (digraph (passed c)) (here (passed c) .loop .work) (here (passed c) .loop .depth) (here (passed c) .loop .x) (passed c .pass-over .result)
     (c .next .result)
 facing c =
     let v : tie.After-pass-over Inv-loop μ-loop = passed c in
@@ -69,12 +69,12 @@ abbrev all-passed : tie.After-finish Inv-loop μ-loop → tie.After-pass-over In
 all-passed c = c .before .before .before
 
 leaving : (c : tie.After-finish Inv-loop μ-loop)
-    → Leaving (net (all-passed c)) (here (all-passed c) .loop .work) (c .finish .last .0) (here (all-passed c) .loop .depth)
+    → Leaving (digraph (all-passed c)) (here (all-passed c) .loop .work) (c .finish .last .0) (here (all-passed c) .loop .depth)
     (here (all-passed c) .loop .x) (all-passed c .pass-over .result)
 leaving c =
-    let w : tie.After-ways Inv-loop μ-loop = search needs in
+    let w : tie.After-edge-count Inv-loop μ-loop = search needs in
     let e : tie.Else1 Inv-loop μ-loop = search needs in
-    record { turning = turn (all-passed c); all = omega (arith, e .if1 .left, w .ways .ensures); stored = c .finish .ensures }
+    record { turning = turn (all-passed c); all = omega (arith, e .if1 .left, w .edge-count .ensures); stored = c .finish .ensures }
 
 -- ---- the needs
 
@@ -89,8 +89,8 @@ loop-holds c =
     let q : tie.After-push Inv-loop μ-loop = search needs in
     (rooted (p .pre .1) (p .pre .2) (p .pre .3) (q .push .ensures) .going, grown-none)
 
-ways-requires : tie.Need-ways-requires Inv-loop μ-loop
-ways-requires c κs =
+edge-count-requires : tie.Need-edge-count-requires Inv-loop μ-loop
+edge-count-requires c κs =
     let p : tie.Start Inv-loop μ-loop = search needs in
     let o : tie.At-loop Inv-loop μ-loop = search needs in
     let l : tie.In-loop Inv-loop μ-loop = search needs in
@@ -102,13 +102,13 @@ pass-over-requires c κs =
     let p : tie.Start Inv-loop μ-loop = search needs in
     let o : tie.At-loop Inv-loop μ-loop = search needs in
     let l : tie.In-loop Inv-loop μ-loop = search needs in
-    let w : tie.After-ways Inv-loop μ-loop = search needs in
+    let w : tie.After-edge-count Inv-loop μ-loop = search needs in
     let going : _ = o .loop .inv .0 in (
       p .pre .0,
       sure (going .search),
       end-inside (going .search) (l .loop-test .taken) (going .end (l .loop-test .taken)),
-      w .ways .ensures,
-      omega (arith, going .over (l .loop-test .taken) .within, w .ways .ensures),
+      w .edge-count .ensures,
+      omega (arith, going .over (l .loop-test .taken) .within, w .edge-count .ensures),
     )
 
 next-requires : tie.Need-next-requires Inv-loop μ-loop
@@ -259,7 +259,7 @@ from-root-spec =
     μ-loop
     push-requires
     loop-holds
-    ways-requires
+    edge-count-requires
     pass-over-requires
     next-requires
     at-requires

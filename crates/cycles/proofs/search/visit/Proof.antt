@@ -3,20 +3,20 @@
 use mathlib.Core.Path.{_∙_}
 use native.Mathlib.Omega.{arith}
 use borrow.Author.Needs.{needs}
-use Rattle.cycles.proofs.Answers.{no-ways-safe, begun-safe}
-use Rattle.cycles.proofs.Passing.{no-function-no-ways}
+use Rattle.cycles.proofs.Answers.{no-edges-safe, begun-safe}
+use Rattle.cycles.proofs.Passing.{no-function-no-edges}
 use Rattle.cycles.proofs.Roots.{visited, passed-over}
 use Rattle.cycles.proofs.search.visit.Statement.{statement}
 use Rattle.cycles.proofs.search.visit.Tie as tie
 
-has-ways-requires : tie.Need-has-ways-requires
-has-ways-requires c κs = search needs
+has-edges-requires : tie.Need-has-edges-requires
+has-edges-requires c κs = search needs
 
 returns : tie.Need-returns
 returns c =
     let p : tie.Start = search needs in
-    let w : tie.After-has-ways = search needs in
-    passed-over (p .args .class .now) (p .pre .1) (λ own. no-ways-safe _ (p .args .x) (no-function-no-ways (p .args .table .now) (p .args .x) (w .has-ways .ensures) (c .if1 .taken)))
+    let w : tie.After-has-edges = search needs in
+    passed-over (p .args .class .now) (p .pre .1) (λ own. no-edges-safe _ (p .args .x) (no-function-no-edges (p .args .table .now) (p .args .x) (w .has-edges .ensures) (c .if1 .taken)))
 
 at-requires : tie.Need-at-requires
 at-requires c κs = search needs
@@ -57,7 +57,7 @@ pub visit-spec : {M : Type 1} → statement M
 visit-spec =
     tie.close
     (tie.spec
-    has-ways-requires
+    has-edges-requires
     returns
     at-requires
     same-length
