@@ -10,7 +10,7 @@ use lib.ListN.{length}
 use Rattle.graphs.specs.Graph.{Steps, one, more}
 use Rattle.graphs.proofs.Finite.{steps-snoc}
 use Rattle.cycles.specs.Digraph.{Digraph, Edge, Returns}
-use Rattle.cycles.specs.Marks.{mark, finishedMark, onPath, Safe, safe, Search, Follows}
+use Rattle.cycles.specs.Steps.Marks.{mark, finishedMark, onPath, Safe, safe, Search, Follows}
 use Rattle.cycles.proofs.Totals.{news-all}
 use Rattle.cycles.proofs.Moves.{finished-safe}
 

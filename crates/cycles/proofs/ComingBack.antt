@@ -7,7 +7,7 @@ use native.Mathlib.Omega.{arith}
 use lib.ListN.{set}
 use lib.Seq.{getD-set-same, getD-set-other}
 use Rattle.cycles.specs.Digraph.{Digraph}
-use Rattle.cycles.specs.Marks.{mark, finishedMark, onPath, Safe, Follows, Over}
+use Rattle.cycles.specs.Steps.Marks.{mark, finishedMark, onPath, Safe, Follows, Over}
 use Rattle.cycles.proofs.Moves.{Moved, finish, finished-safe}
 use Rattle.cycles.proofs.Turns.{Turned, Turning, end-inside}
 

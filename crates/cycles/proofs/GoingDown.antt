@@ -7,7 +7,7 @@ use native.Mathlib.Omega.{arith}
 use lib.ListN.{set}
 use lib.Seq.{getD-set-same, getD-set-other}
 use Rattle.cycles.specs.Digraph.{Digraph}
-use Rattle.cycles.specs.Marks.{mark, finishedMark, onPath, Follows, FoundCycle}
+use Rattle.cycles.specs.Steps.Marks.{mark, finishedMark, onPath, Follows, FoundCycle}
 use Rattle.cycles.proofs.Stores.{grown-join}
 use Rattle.cycles.proofs.Moves.{Advanced, advance, path-room}
 use Rattle.cycles.proofs.Answers.{closed}

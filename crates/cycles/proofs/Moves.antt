@@ -7,7 +7,7 @@ use native.Mathlib.Decide.{ℕ-discrete, decLt}
 use native.Mathlib.Omega.{arith}
 use lib.ListN.{set}
 use Rattle.cycles.specs.Digraph.{Digraph}
-use Rattle.cycles.specs.Marks.{mark, finishedMark, onPath, Safe, safe, Follows, Search, Grown}
+use Rattle.cycles.specs.Steps.Marks.{mark, finishedMark, onPath, Safe, safe, Follows, Search, Grown}
 use Rattle.cycles.proofs.Totals.{left, total-part}
 use Rattle.cycles.proofs.Stores.{Raised, raised-mark, raised-push, pushed, raised-grown, raised-at-most, raised-less, raised-begun, raised-new}
 

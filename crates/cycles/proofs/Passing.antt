@@ -12,7 +12,7 @@ use lib.Dec.{eqb}
 use borrow.Author.Tests.{not-true, eq-eqb, ne-eqb}
 use Rattle.table.specs.Table.{choose, kindAt, contentAt, functionKind, degree}
 use Rattle.cycles.specs.Digraph.{Digraph, digraphOf}
-use Rattle.cycles.specs.Marks.{SearchableRows, mark, finishedMark, Safe, Search, Open, Sure, Over, Passed}
+use Rattle.cycles.specs.Steps.Marks.{SearchableRows, mark, finishedMark, Safe, Search, Open, Sure, Over, Passed}
 use Rattle.cycles.proofs.Moves.{finished-safe}
 use Rattle.cycles.proofs.Answers.{no-edges-safe}
 

@@ -11,7 +11,7 @@ use lib.ListN.{length, getD, set, drop, replicate}
 use Rattle.rows.proofs.Laws.{behind-cleared, cleared-zero}
 use Rattle.graphs.specs.Partition.{entry}
 use Rattle.cycles.specs.Digraph.{Digraph, Edge, digraphOf, Searchable, Searched}
-use Rattle.cycles.specs.Marks.{SearchableRows, mark, Safe, Search, Grown, FoundCycle, Ended, FromRoot, Visited, Told}
+use Rattle.cycles.specs.Steps.Marks.{SearchableRows, mark, Safe, Search, Grown, FoundCycle, Ended, FromRoot, Visited, Told}
 use Rattle.cycles.proofs.Stores.{grown-none, grown-join}
 use Rattle.cycles.proofs.Answers.{start, none, begun-safe}
 use Rattle.cycles.proofs.Turns.{Turned, started-at, end-begun}

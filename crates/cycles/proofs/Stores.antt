@@ -8,7 +8,7 @@ use native.Mathlib.Omega.{arith}
 use lib.ListN.{length, set, drop, length-set}
 use lib.Seq.{getD-set-same, getD-set-other, drop-set-lt}
 use Rattle.cycles.specs.Digraph.{Digraph}
-use Rattle.cycles.specs.Marks.{mark, finishedMark, onPath, news, Grown}
+use Rattle.cycles.specs.Steps.Marks.{mark, finishedMark, onPath, news, Grown}
 use Rattle.cycles.proofs.Totals.{left, total-one}
 
 -- The mark of x is m and was at most that. The other marks, the path below `depth` and what is behind it are as they were.

@@ -6,7 +6,7 @@ use Prim.Native.Nat.{ℕ, zero, suc, _+_, _-_, _≤_, _<_}
 use native.Mathlib.Decide.{ℕ-discrete}
 use native.Mathlib.Omega.{arith}
 use Rattle.cycles.specs.Digraph.{Digraph}
-use Rattle.cycles.specs.Marks.{mark, finishedMark, total}
+use Rattle.cycles.specs.Steps.Marks.{mark, finishedMark, total}
 
 -- by how much marks can still be raised
 abbrev pub left : Digraph → List ℕ → ℕ

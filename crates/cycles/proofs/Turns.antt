@@ -6,7 +6,7 @@ use Prim.Native.Nat.{ℕ, _+_, _-_, _<_}
 use native.Mathlib.Omega.{arith}
 use lib.ListN.{set}
 use Rattle.cycles.specs.Digraph.{Digraph}
-use Rattle.cycles.specs.Marks.{mark, onPath, Follows, Search, Grown, Over, Passed}
+use Rattle.cycles.specs.Steps.Marks.{mark, onPath, Follows, Search, Grown, Over, Passed}
 use Rattle.cycles.proofs.Totals.{left}
 use Rattle.cycles.proofs.Stores.{raised-push, pushed}
 use Rattle.cycles.proofs.Moves.{Moved, begin, path-room}

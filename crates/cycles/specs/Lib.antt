@@ -1,3 +1,3 @@
--- What a reader must believe of the search for cycles (Digraph), and what its private steps promise each other (Marks).
+-- What a reader must believe of the search for cycles (Digraph). Steps has what its private steps promise each other.
 pub mod Digraph
-pub mod Marks
+pub mod Steps

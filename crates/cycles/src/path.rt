@@ -4,7 +4,7 @@ ghost use Prim.Native.Nat.{_+_, _-_, _<_, _≤_};
 ghost use lib.ListN.{length, getD, set};
 ghost use Rattle.table.specs.Table.{degree};
 ghost use Rattle.cycles.specs.Digraph.{digraphOf};
-ghost use Rattle.cycles.specs.Marks.{SearchableRows, Open, Sure, Passed, finishedMark, mark};
+ghost use Rattle.cycles.specs.Steps.Marks.{SearchableRows, Open, Sure, Passed, finishedMark, mark};
 use crate::reads;
 
 // The mark of a finished vertex. No vertex on the path has it: there a mark is 1 + the edges passed

@@ -3,7 +3,7 @@ ghost use mathlib.Core.Path.{_≡_};
 ghost use Prim.Native.Nat.{_<_};
 ghost use lib.ListN.{length};
 ghost use Rattle.cycles.specs.Digraph.{digraphOf, Searchable, Searched};
-ghost use Rattle.cycles.specs.Marks.{SearchableRows, Search, FromRoot, Visited, Told, mark};
+ghost use Rattle.cycles.specs.Steps.Marks.{SearchableRows, Search, FromRoot, Visited, Told, mark};
 use crate::path;
 use crate::reads;
 

@@ -5,7 +5,7 @@ use native.Mathlib.Omega.{arith}
 use borrow.Author.Needs.{needs}
 use Rattle.table.specs.Table.{degree}
 use Rattle.cycles.specs.Digraph.{digraphOf}
-use Rattle.cycles.specs.Marks.{Over}
+use Rattle.cycles.specs.Steps.Marks.{Over}
 use Rattle.cycles.proofs.Passing.{over-none, over-next, stops-here, over-all}
 use Rattle.cycles.proofs.path.pass_over.Statement.{statement}
 use Rattle.cycles.proofs.path.pass_over.Tie as tie

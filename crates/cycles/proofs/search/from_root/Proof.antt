@@ -6,7 +6,7 @@ use Prim.Native.Nat.{_<_}
 use native.Mathlib.Omega.{arith}
 use borrow.Author.Needs.{needs}
 use Rattle.cycles.specs.Digraph.{Digraph, digraphOf}
-use Rattle.cycles.specs.Marks.{mark, Grown}
+use Rattle.cycles.specs.Steps.Marks.{mark, Grown}
 use Rattle.cycles.proofs.Totals.{left}
 use Rattle.cycles.proofs.Stores.{grown-none, grown-join}
 use Rattle.cycles.proofs.Passing.{sure}
