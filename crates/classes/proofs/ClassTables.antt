@@ -17,8 +17,8 @@ use Rattle.graphs.specs.Log.{key}
 use Rattle.graphs.proofs.Classes.{never, node-or-nothing, same-labels, same-nodes, together-one-entry, entry-together}
 use Rattle.graphs.proofs.Certificates.{key-symbol, key-variable, key-nothing, first-names}
 use Rattle.table.specs.Table.{TableSymbols, graphOf, childOf}
-use Rattle.classes.specs.Forest.{Flattened}
-use Rattle.classes.specs.Meeting.{PassedCheck, OneSymbol, State, Within, Agrees, Complete, Moved}
+use Rattle.classes.specs.Steps.Forest.{Flattened}
+use Rattle.classes.specs.Steps.Meeting.{PassedCheck, OneSymbol, State, Within, Agrees, Complete, Moved}
 use Rattle.classes.proofs.Symbols.{degree-of-head, child-of-head, head-of-degree, head-0, one-symbol-children}
 use Rattle.classes.proofs.Shortened.{config, shorter-moved}
 

@@ -8,7 +8,7 @@ use lib.ListN.{length, set}
 use Rattle.graphs.specs.Partition.{entry}
 use Rattle.graphs.specs.Log.{key}
 use Rattle.table.specs.Table.{graphOf}
-use Rattle.classes.specs.Forest.{Up, here, up, Forest, Shorter, Rooted}
+use Rattle.classes.specs.Steps.Forest.{Up, here, up, Forest, Shorter, Rooted}
 use Rattle.classes.proofs.Links.{up-join, up-key, up-back, shorter-none, halved, shorter-up, shorter-forest, shorter-join}
 
 -- The walk from x came to `at`, whose entry is `above`; `row` is the row `before` with shorter links.

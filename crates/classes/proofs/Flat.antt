@@ -8,7 +8,7 @@ use native.Mathlib.Omega.{arith}
 use lib.ListN.{length, set}
 use lib.Seq.{getD-set-same}
 use Rattle.graphs.specs.Partition.{entry}
-use Rattle.classes.specs.Forest.{Up, here, up, Forest, Shorter, Rooted, Led, Flattened}
+use Rattle.classes.specs.Steps.Forest.{Up, here, up, Forest, Shorter, Rooted, Led, Flattened}
 use Rattle.classes.proofs.Links.{root-stops, shorter-none, shorter-join, shorter-forest, shorter-own, shorter-root, set-root}
 
 -- no link, or one and then the rest

@@ -25,7 +25,7 @@ use Rattle.table.specs.Faults.{badKind, badLater, badWord}
 use Rattle.table.specs.Shaped.{Shaped}
 use Rattle.table.proofs.Children.{kind-head, node-kind}
 use Rattle.table.proofs.Shape.{inside-kind, block-count}
-use Rattle.classes.specs.Meeting.{OneSymbol}
+use Rattle.classes.specs.Steps.Meeting.{OneSymbol}
 
 -- ---- what stands at a node
 

@@ -11,7 +11,7 @@ use lib.Seq.{getD-set-same, getD-set-other, drop-set-lt}
 use Rattle.graphs.specs.Partition.{entry}
 use Rattle.graphs.specs.Log.{key}
 use Rattle.table.specs.Table.{graphOf}
-use Rattle.classes.specs.Forest.{Up, here, up, Forest, Shorter}
+use Rattle.classes.specs.Steps.Forest.{Up, here, up, Forest, Shorter}
 
 -- ---- links
 

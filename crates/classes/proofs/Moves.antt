@@ -6,13 +6,13 @@ use Prim.Native.Nat.{ℕ}
 use native.Mathlib.Omega.{arith}
 use Rattle.graphs.specs.Partition.{Pair}
 use Rattle.graphs.proofs.Classes.{never}
-use Rattle.classes.specs.Meeting.{State, Config, Kept, Moved, Stopped, Turned, went-on, clashed, Settled, all-joined, clash-met}
+use Rattle.classes.specs.Steps.Meeting.{State, Config, RestKept, Moved, Stopped, Turned, went-on, clashed, Settled, all-joined, clash-met}
 use Rattle.classes.specs.declared.meet.Turn.{Turn}
 
-pub kept-none : {t : List ℕ} {c : Config} → Kept t c c
+pub kept-none : {t : List ℕ} {c : Config} → RestKept t c c
 kept-none = record { row-long = refl; work-long = refl; row-behind = refl; work-behind = refl }
 
-pub kept-join : {t : List ℕ} {a b c : Config} → Kept t a b → Kept t b c → Kept t a c
+pub kept-join : {t : List ℕ} {a b c : Config} → RestKept t a b → RestKept t b c → RestKept t a c
 kept-join k l =
     record {
       row-long = l .row-long ∙ k .row-long;

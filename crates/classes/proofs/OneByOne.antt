@@ -16,9 +16,9 @@ use Rattle.graphs.proofs.Classes.{same-grows, first-pairs-grow}
 use Rattle.table.specs.Table.{graphOf}
 use Rattle.table.specs.Faults.{pairsOf, pairAt}
 use Rattle.table.proofs.Pairs.{pairAt-entries}
-use Rattle.classes.specs.Forest.{Forest}
-use Rattle.classes.specs.Meeting.{PassedCheck, State, Within, Agrees, Complete, Settled}
-use Rattle.classes.specs.Lists.{JoinsPair, resting, Holding, JoinedBefore, ClashesAt, EachJoined}
+use Rattle.classes.specs.Steps.Forest.{Forest}
+use Rattle.classes.specs.Steps.Meeting.{PassedCheck, State, Within, Agrees, Complete, Settled}
+use Rattle.classes.specs.Steps.Lists.{JoinsPair, resting, Holding, JoinedBefore, ClashesAt, EachJoined}
 use Rattle.classes.proofs.Links.{shorter-none, root-exists}
 use Rattle.classes.proofs.Flat.{Flat, led-now, flat-none, flat-forest, flat-more, flat-all}
 use Rattle.classes.proofs.Moves.{kept-none, kept-join, true-joined, false-stopped}

@@ -12,7 +12,7 @@ use Rattle.graphs.specs.Partition.{Pair, Clash}
 use Rattle.graphs.proofs.Classes.{class-table-only, clash-grows, first-pairs-grow}
 use Rattle.table.specs.Table.{graphOf}
 use Rattle.table.specs.Faults.{pairsOf}
-use Rattle.classes.specs.Joining.{CanJoin, AllJoined, FirstClash, ByOutcome, JoinOf}
+use Rattle.classes.specs.Joining.{CanJoin, AllJoined, ClashAtPair, ByOutcome, JoinOf}
 use Rattle.classes.specs.declared.joining.Joined.{Joined}
 
 module _ (t : List ℕ) (earlier : List Pair) (list class : List ℕ) where
@@ -28,7 +28,7 @@ module _ (t : List ℕ) (earlier : List Pair) (list class : List ℕ) where
   both-joined {one} {two} a b =
       sym (take-append-drop (length t) one) ∙ ap₂ _++_ (class-table-only (a .class-table) (b .class-table)) (a .behind ∙ sym (b .behind)) ∙ take-append-drop (length t) two
 
-  one-place : {m n : ℕ} {one two : List ℕ} → FirstClash t earlier list class m one → FirstClash t earlier list class n two → m ≡ n
+  one-place : {m n : ℕ} {one two : List ℕ} → ClashAtPair t earlier list class m one → ClashAtPair t earlier list class n two → m ≡ n
   one-place {m} {n} a b = go (decLt (a .place) (b .place)) (decLt (b .place) (a .place))
     where
       go : Dec (a .place < b .place) → Dec (b .place < a .place) → m ≡ n
@@ -36,7 +36,7 @@ module _ (t : List ℕ) (earlier : List Pair) (list class : List ℕ) where
       go (no h) (yes l) = absurd (a .none-before (later (b .place + 1) (a .place) (omega arith) (b .clash)))
       go (no h) (no l) = omega (arith, a .numbers, b .numbers)
 
-  clash-and-none : {n : ℕ} {one two : List ℕ} → AllJoined t earlier list class one → FirstClash t earlier list class n two → ⊥
+  clash-and-none : {n : ℕ} {one two : List ℕ} → AllJoined t earlier list class one → ClashAtPair t earlier list class n two → ⊥
   clash-and-none a b = a .no-clash (whole (b .place + 1) (omega (arith, b .inside)) (b .clash))
 
   one-outcome : (r s : Joined) {one two : List ℕ} → ByOutcome t earlier list class r one → ByOutcome t earlier list class s two → (r ≡ s) × (one ≡ two)

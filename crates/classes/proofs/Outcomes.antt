@@ -9,9 +9,9 @@ use Rattle.words.specs.declared.numbers.PairNumber.{PairNumber}
 use Rattle.graphs.specs.Partition.{Pair, Sides, Clash, ClassTable}
 use Rattle.table.specs.Table.{graphOf}
 use Rattle.table.specs.Faults.{pairsOf}
-use Rattle.classes.specs.Forest.{Forest, Flattened}
-use Rattle.classes.specs.Meeting.{PassedCheck, State}
-use Rattle.classes.specs.Lists.{Holding, JoinedBefore, ClashesAt, EachJoined}
+use Rattle.classes.specs.Steps.Forest.{Forest, Flattened}
+use Rattle.classes.specs.Steps.Meeting.{PassedCheck, State}
+use Rattle.classes.specs.Steps.Lists.{Holding, JoinedBefore, ClashesAt, EachJoined}
 use Rattle.classes.specs.Joining.{Joinable, CanJoin, JoinOf}
 use Rattle.classes.specs.declared.joining.Joined.{Joined}
 use Rattle.classes.proofs.ClassTables.{flat-class-table, class-table-start}

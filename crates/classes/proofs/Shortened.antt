@@ -12,8 +12,8 @@ use lib.ListN.{length}
 use Rattle.graphs.specs.Graph.{Symbols, Graph, nothing, symbol, Node, symbol-node}
 use Rattle.graphs.specs.Partition.{Pair, _∈_, Same, itself, swapped, through, entry, isNode, classes}
 use Rattle.table.specs.Table.{TableSymbols, graphOf, degree, childOf}
-use Rattle.classes.specs.Forest.{Up, here, up, Shorter, Rooted}
-use Rattle.classes.specs.Meeting.{PassedCheck, OneSymbol, State, Config, Within, Agrees, Complete, Moved, Roots}
+use Rattle.classes.specs.Steps.Forest.{Up, here, up, Shorter, Rooted}
+use Rattle.classes.specs.Steps.Meeting.{PassedCheck, OneSymbol, State, Config, Within, Agrees, Complete, Moved, Roots}
 use Rattle.classes.proofs.Counts.{count-same}
 use Rattle.classes.proofs.Moves.{moved-join}
 use Rattle.classes.proofs.Symbols.{head-of-degree, head-0, one-symbol-degree}

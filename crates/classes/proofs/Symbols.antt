@@ -14,7 +14,7 @@ use Rattle.table.specs.Table.{kindAt, contentAt, functionKind, choose, symbolWi
 use Rattle.table.specs.Shaped.{Shaped}
 use Rattle.table.proofs.Children.{kind-head, named-length, named-at, degree-child}
 use Rattle.table.proofs.Shape.{kind-0}
-use Rattle.classes.specs.Meeting.{OneSymbol}
+use Rattle.classes.specs.Steps.Meeting.{OneSymbol}
 
 module _ (t : List ℕ) (x : ℕ) {s : TableSymbols .Symbol} {xs : List ℕ} (e : graphOf t .head x ≡ symbol s xs) where
   -- what is known of the children of a node with a symbol

@@ -35,7 +35,7 @@ pub record AllJoined (t : List ℕ) (earlier : List Pair) (list class class-afte
   pub behind : drop (length t) class-after ≡ drop (length t) class
 
 -- "Pairs are numbered from 1": the first clash comes with the pair at place i, and the class entries are 0.
-pub record FirstClash (t : List ℕ) (earlier : List Pair) (list class : List ℕ) (number : ℕ) (class-after : List ℕ) : Type 0 where
+pub record ClashAtPair (t : List ℕ) (earlier : List Pair) (list class : List ℕ) (number : ℕ) (class-after : List ℕ) : Type 0 where
   pub place : ℕ
   pub numbers : number ≡ place + 1
   pub inside : place < length (pairsOf list)
@@ -45,7 +45,7 @@ pub record FirstClash (t : List ℕ) (earlier : List Pair) (list class : List �
 
 abbrev pub ByOutcome : List ℕ → List Pair → List ℕ → List ℕ → Joined → List ℕ → Type 0
 ByOutcome t earlier list class Joined.All class-after = AllJoined t earlier list class class-after
-ByOutcome t earlier list class (Joined.ClashAt k) class-after = FirstClash t earlier list class (k .0) class-after
+ByOutcome t earlier list class (Joined.ClashAt k) class-after = ClashAtPair t earlier list class (k .0) class-after
 
 -- What a join answers and leaves, whatever pairs the row was the class table of. The work entries in use become 0.
 pub record JoinOf (t list class work : List ℕ) (answer : Joined) (class-after work-after : List ℕ) : Type 0 where

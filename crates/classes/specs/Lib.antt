@@ -1,7 +1,5 @@
--- What a reader must believe of a join (Joining) and of the count of joins (Counting), and what the private steps of a join
--- promise each other (Forest, Meeting, Lists).
-pub mod Forest
-pub mod Meeting
-pub mod Lists
+-- What a reader must believe of a join (Joining) and of the count of joins (Counting). Steps has what the private steps of a
+-- join promise each other.
+pub mod Steps
 pub mod Joining
 pub mod Counting

@@ -1,7 +1,7 @@
 // The forest made flat: each entry becomes the root, which is the name of the class.
 ghost use Prim.Native.Nat.{_<_, _≤_};
 ghost use lib.ListN.{length};
-ghost use Rattle.classes.specs.Forest.{Forest, Led, Flattened};
+ghost use Rattle.classes.specs.Steps.Forest.{Forest, Led, Flattened};
 use crate::forest;
 use words::numbers::Address;
 

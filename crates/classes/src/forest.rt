@@ -2,7 +2,7 @@
 ghost use mathlib.Core.Path.{_≡_};
 ghost use Prim.Native.Nat.{_<_};
 ghost use lib.ListN.{length, getD};
-ghost use Rattle.classes.specs.Forest.{Forest, Rooted};
+ghost use Rattle.classes.specs.Steps.Forest.{Forest, Rooted};
 use words::numbers::Address;
 
 // The entry of the class row at an address.

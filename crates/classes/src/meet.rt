@@ -5,7 +5,7 @@ ghost use lib.ListN.{length, set};
 ghost use Rattle.graphs.specs.Graph.{Node};
 ghost use Rattle.graphs.specs.Log.{key as keyIn};
 ghost use Rattle.table.specs.Table.{graphOf, Laid};
-ghost use Rattle.classes.specs.Meeting.{PassedCheck, State, Meets, Ordered, Roots};
+ghost use Rattle.classes.specs.Steps.Meeting.{PassedCheck, State, Meets, Ordered, Roots};
 use crate::forest;
 use words::head::Head;
 use words::meeting;
@@ -66,8 +66,8 @@ fn meet_ordered(
     }
 }
 
-// Two different roots meet: the earlier in the naming order is to be the name. Both ways about end in
-// one call, so that it is inlined.
+// Two different roots meet: the earlier in the naming order is to be the name. Whichever it is, there is
+// one call, so that the compiler inlines it.
 fn meet_roots(
     table: &[u32],
     class: &mut [u16],

@@ -6,7 +6,7 @@ use native.Mathlib.Omega.{arith}
 use borrow.Author.Needs.{needs}
 use borrow.Author.Tests.{not-true, not-false}
 use Rattle.table.proofs.Pairs.{length-pairsOf, length-pairsOf-over}
-use Rattle.classes.specs.Lists.{JoinedBefore}
+use Rattle.classes.specs.Steps.Lists.{JoinedBefore}
 use Rattle.classes.proofs.OneByOne.{begins, joins-on, clashes-here, clash-found, all-met, side-nodes}
 use Rattle.classes.proofs.joining.join_each.Statement.{statement}
 use Rattle.classes.proofs.joining.join_each.Tie as tie

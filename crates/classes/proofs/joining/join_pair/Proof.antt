@@ -2,7 +2,7 @@
 -- Assumes nothing.
 use mathlib.Core.List.{[]}
 use borrow.Author.Needs.{needs}
-use Rattle.classes.specs.Meeting.{clash-met}
+use Rattle.classes.specs.Steps.Meeting.{clash-met}
 use Rattle.classes.proofs.Moves.{settled-after, waiting-moved, clash-stops}
 use Rattle.classes.proofs.joining.join_pair.Statement.{statement}
 use Rattle.classes.proofs.joining.join_pair.Tie as tie

@@ -1,7 +1,7 @@
 -- `classes::meet::meet` meets its contract: the pair moves on to its roots, and these meet.
 -- Assumes nothing.
 use borrow.Author.Needs.{needs}
-use Rattle.classes.specs.Meeting.{went-on}
+use Rattle.classes.specs.Steps.Meeting.{went-on}
 use Rattle.classes.proofs.Links.{shorter-forest}
 use Rattle.classes.proofs.Moves.{turned-after}
 use Rattle.classes.proofs.Shortened.{roots-state, two-roots, roots-nodes, roots-moved, same-root-moved}

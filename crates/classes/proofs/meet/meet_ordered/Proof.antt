@@ -3,7 +3,7 @@
 use native.Mathlib.Omega.{arith}
 use borrow.Author.Needs.{needs}
 use Rattle.table.proofs.Shape.{shaped-laid}
-use Rattle.classes.specs.Meeting.{went-on, clashed}
+use Rattle.classes.specs.Steps.Meeting.{went-on, clashed}
 use Rattle.classes.proofs.Heads.{said-at}
 use Rattle.classes.proofs.Linked.{room-to-wait, joined-moved, pushed-at, clash-stopped}
 use Rattle.classes.proofs.meet.meet_ordered.Statement.{statement}

@@ -1,4 +1,4 @@
--- What the joins of a list's pairs, one after the other, promise. For this crate alone. Assumes nothing.
+-- What the joins of a list's pairs, one after the other, promise. Assumes nothing.
 use mathlib.Core.Bool.{Bool}
 use mathlib.Core.List.{List, [], _∷_, _++_}
 use Prim.Native.Nat.{ℕ, _+_, _≤_, _<_}
@@ -6,7 +6,7 @@ use lib.ListN.{length, take}
 use Rattle.graphs.specs.Partition.{Pair, Sides, Clash}
 use Rattle.table.specs.Table.{graphOf}
 use Rattle.table.specs.Faults.{pairsOf}
-use Rattle.classes.specs.Meeting.{State, Config, Within, Complete, Kept, Settled}
+use Rattle.classes.specs.Steps.Meeting.{State, Config, Within, Complete, RestKept, Settled}
 
 -- What the join of one pair does, with no pair waiting before and after.
 abbrev pub JoinsPair : List ℕ → List ℕ → List ℕ → ℕ → ℕ → List ℕ → List ℕ → Bool → Type 0
@@ -26,13 +26,13 @@ pub record Holding (t : List ℕ) (pairs : List Pair) (row work : List ℕ) : Ty
 pub record JoinedBefore (t list row₀ work₀ row work : List ℕ) (i : ℕ) : Type 0 where
   pub inside : i ≤ length (pairsOf list)
   pub state : State t row work 0
-  pub kept : Kept t (resting row₀ work₀) (resting row work)
+  pub kept : RestKept t (resting row₀ work₀) (resting row work)
   pub holding : (earlier : List Pair) → Holding t earlier row₀ work₀ → Holding t (earlier ++ take i (pairsOf list)) row work
 
 -- The pair at place i is the first that clashes with those before it.
 pub record ClashesAt (t list row₀ work₀ row work : List ℕ) (i : ℕ) : Type 0 where
   pub inside : i < length (pairsOf list)
-  pub kept : Kept t (resting row₀ work₀) (resting row work)
+  pub kept : RestKept t (resting row₀ work₀) (resting row work)
   pub clash : (earlier : List Pair) → Holding t earlier row₀ work₀ → Clash (graphOf t) (earlier ++ take (i + 1) (pairsOf list))
   pub none-before : (earlier : List Pair) → Sides (graphOf t) earlier → Holding t earlier row₀ work₀ → Clash (graphOf t) (earlier ++ take i (pairsOf list)) → ⊥
 

@@ -1,6 +1,6 @@
 -- The class row as a forest: while pairs are joined, an entry is a link to a node of the same class that comes earlier in the
 -- naming order, and a node that is its own entry is a root. A root is the first of its class in the naming order, so it is the
--- name of its class. For this crate alone. Assumes nothing.
+-- name of its class. Assumes nothing.
 use mathlib.Core.Path.{_≡_}
 use mathlib.Core.Logic.{_⊎_}
 use mathlib.Core.List.{List}

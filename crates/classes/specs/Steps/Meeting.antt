@@ -1,5 +1,5 @@
 -- What the steps of a join promise each other. A state is the class row as a forest, and the pairs of functions that wait in
--- the work row for their children to meet. For this crate alone. Assumes nothing.
+-- the work row for their children to meet. Assumes nothing.
 use mathlib.Core.Path.{_≡_}
 use mathlib.Core.Bool.{Bool, true, false}
 use mathlib.Core.List.{List, [], _∷_, _++_}
@@ -10,7 +10,7 @@ use Rattle.graphs.specs.Partition.{Pair, _∈_, Same, Clash, entry, classes}
 use Rattle.graphs.specs.Log.{key}
 use Rattle.table.specs.Table.{TableSymbols, graphOf, degree, childOf}
 use Rattle.table.specs.Shaped.{Shaped}
-use Rattle.classes.specs.Forest.{Forest}
+use Rattle.classes.specs.Steps.Forest.{Forest}
 use Rattle.classes.specs.declared.meet.Turn.{Turn}
 
 -- What the steps ask of the table: it passed its check.
@@ -75,7 +75,7 @@ pub record Complete (t : List ℕ) (done : List Pair) (c : Config) : Type 0 wher
 -- ---- what a step does
 
 -- what of the lent rows is not used stays
-pub record Kept (t : List ℕ) (before after : Config) : Type 0 where
+pub record RestKept (t : List ℕ) (before after : Config) : Type 0 where
   pub row-long : length (after .row) ≡ length (before .row)
   pub work-long : length (after .work) ≡ length (before .work)
   pub row-behind : drop (length t) (after .row) ≡ drop (length t) (before .row)
@@ -91,12 +91,12 @@ pub record Moved (t : List ℕ) (before after : Config) : Type 0 where
   pub within : (pairs : List Pair) → Within t pairs before → Within t pairs after
   pub complete : (done : List Pair) → Complete t done before → Complete t done after
   pub less : toDo t after ≤ toDo t before
-  pub kept : Kept t before after
+  pub kept : RestKept t before after
 
 -- A step met a clash.
 pub record Stopped (t : List ℕ) (before : Config) (row work : List ℕ) : Type 0 where
   pub clash : (pairs : List Pair) → Within t pairs before → Clash (graphOf t) pairs
-  pub kept : Kept t before (record { row = row; work = work; waiting = 0; owed = [] })
+  pub kept : RestKept t before (record { row = row; work = work; waiting = 0; owed = [] })
 
 -- What a step does: it went on, with so many pairs waiting and these still to meet, or it met a clash.
 pub data Turned (t : List ℕ) (before : Config) (row work : List ℕ) (owed : List Pair) : Turn → Type 0 where
