@@ -90,11 +90,12 @@ uint64_t station_lent(const uint32_t *table, size_t n, const uint16_t *list, siz
 uint64_t station_check(const uint32_t *table, size_t n,
                        uint16_t *classes, size_t class_len, uint16_t *work, size_t work_len);
 
-/* What station_lent and station_check return holds three numbers. Its top 16 bits are reserved; they are
- * 0 today. */
+/* What station_lent, station_check and station_read return holds three numbers. Its top 16 bits are reserved;
+ * they are 0 today. */
 #define STATION_ANSWER_OF(result) ((uint16_t)((result) & 65535u))
 #define STATION_PLACE_OF(result) ((uint16_t)((result) >> 16 & 65535u))
-#define STATION_JOINS_OF(result) ((uint16_t)((result) >> 32 & 65535u))
+#define STATION_JOINS_OF(result) ((uint16_t)((result) >> 32 & 65535u)) /* station_lent, station_check */
+#define STATION_JOBS_OF(result) ((uint16_t)((result) >> 32 & 65535u))  /* station_read */
 
 /* ---- a job file ----
  *
@@ -105,6 +106,12 @@ uint64_t station_check(const uint32_t *table, size_t n,
  */
 uint16_t station_write(const uint16_t *sizes, size_t sizes_len, const uint8_t *bodies, size_t bodies_len,
                        uint8_t *room, size_t room_len);
+
+/* Reads the sizes of a file: returns answer + 65,536 x place + 4,294,967,296 x J. The answers are 12, 13 and 14,
+ * as for station_match, then 2 if there is room for fewer than 2J sizes; J is 0 on refusal. On 0 the first 2J
+ * entries are n, p, n, p, ..; later entries stay, and a refusal writes nothing.
+ */
+uint64_t station_read(const uint8_t *file, size_t file_len, uint16_t *sizes, size_t sizes_len);
 
 #ifdef __cplusplus
 }

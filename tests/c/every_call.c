@@ -27,6 +27,8 @@ static uint64_t made(const struct call *call, uint8_t *memory) {
         return station_check(row[0], length[0], row[1], length[1], row[2], length[2]);
     case 'w':
         return station_write(row[0], length[0], row[1], length[1], row[2], length[2]);
+    case 'r':
+        return station_read(row[0], length[0], row[1], length[1]);
     }
     fprintf(stderr, "no entry\n");
     exit(2);

@@ -3,7 +3,7 @@
  *
  * A request is a letter, the rows that are read, the lengths of what is lent, and how many entries of each
  * are to be printed after the result: m for station_match, l for station_lent, c for station_check, w for
- * station_write.
+ * station_write, r for station_read.
  */
 #include "rows.h"
 #include "station.h"
@@ -52,6 +52,15 @@ static void write_file(void) {
     free(room.entries);
 }
 
+static void read_sizes(void) {
+    struct uint8_t_row file = uint8_t_read();
+    struct uint16_t_row sizes = uint16_t_room(number());
+    print_result(station_read(file.entries, file.length, sizes.entries, sizes.length));
+    uint16_t_print(sizes, number());
+    free(file.entries);
+    free(sizes.entries);
+}
+
 int main(void) {
     char entry;
     while (scanf(" %c", &entry) == 1) {
@@ -59,6 +68,8 @@ int main(void) {
             match();
         else if (entry == 'w')
             write_file();
+        else if (entry == 'r')
+            read_sizes();
         else
             lent(entry == 'c');
         printf("\n");

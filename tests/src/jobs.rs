@@ -2,6 +2,14 @@
 
 use crate::matching::{example_a, example_b};
 
+pub const FILE: u16 = 12;
+pub const CONTENTS: u16 = 13;
+pub const BODY: u16 = 14;
+
+/// A file has at most so many bytes, and so many jobs.
+pub const MOST_BYTES: usize = 32_768;
+pub const MOST_JOBS: usize = 64;
+
 /// A job as a test has it: the table's words, and the list's addresses, two a pair.
 pub type Job = (Vec<u32>, Vec<u16>);
 

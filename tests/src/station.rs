@@ -36,12 +36,18 @@ mod exported {
             room: *mut u8,
             room_len: usize,
         ) -> u16;
+        pub fn station_read(
+            file: *const u8,
+            file_len: usize,
+            sizes: *mut u16,
+            sizes_len: usize,
+        ) -> u64;
     }
 }
 
 pub const JOB: u16 = 15;
 
-/// Answer, place and joins out of one number, whose top 16 bits are 0.
+/// Answer, place and joins, or jobs, out of one number, whose top 16 bits are 0.
 fn parts(all: u64) -> (u16, u16, u16) {
     assert_eq!(all >> 48, 0, "the top 16 bits");
     (all as u16, (all >> 16) as u16, (all >> 32) as u16)
@@ -107,4 +113,11 @@ pub fn write(sizes: &[u16], bodies: &[u8], room: &mut [u8]) -> u16 {
             room.len(),
         )
     }
+}
+
+/// Answer, place and J of the reader.
+pub fn read(file: &[u8], sizes: &mut [u16]) -> (u16, u16, u16) {
+    parts(unsafe {
+        exported::station_read(file.as_ptr(), file.len(), sizes.as_mut_ptr(), sizes.len())
+    })
 }

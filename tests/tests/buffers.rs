@@ -5,7 +5,7 @@
 use station_tests::guarded::Guarded;
 use station_tests::independent::jobs::job;
 use station_tests::independent::judge::{check, judge};
-use station_tests::independent::{host, jobfile};
+use station_tests::independent::{host, jobfile, wanted};
 use station_tests::jobs::{bodies_of, file_from, in_pairs, sizes_of, Job};
 use station_tests::matching::{accepted, refused, Given};
 use station_tests::random::Numbers;
@@ -199,6 +199,33 @@ fn station_write_on_dirty_room() {
                     lent_room.assert_left(left);
                     lent_sizes.assert_left(&[]);
                     lent_bodies.assert_left(&[]);
+                }
+            }
+        }
+    });
+}
+
+#[test]
+fn station_read_on_dirty_sizes() {
+    each_job(|numbers, job| {
+        if job.0.len() > 8_192 {
+            return;
+        }
+        let jobs = vec![in_pairs(job); 1 + numbers.below(3)];
+        let file = file_from(&sizes_of(&jobs), &bodies_of(&jobs));
+        // A good one or one that is too long, one byte too few, and one too many.
+        let longer = [&file[..], &[0]].concat();
+        for file in [&file[..], &file[..file.len() - 1], &longer[..]] {
+            for room in rooms(numbers, 2 * jobs.len()) {
+                let (result, left) = wanted::of_read(file, room);
+                let old = numbers.entries(room);
+                let mut lent_sizes = Guarded::new(numbers, &old);
+                let mut lent_file = Guarded::new(numbers, file);
+                for _ in 0..2 {
+                    let found = station::read(lent_file.row(), lent_sizes.row());
+                    assert_eq!(wanted::as_one(found.0, found.1, found.2), result);
+                    lent_sizes.assert_left(&left);
+                    lent_file.assert_left(&[]);
                 }
             }
         }

@@ -78,7 +78,14 @@ impl Talk {
         self.rooms(answer, &[(room, &file)]);
     }
 
-    /// A job through the four entries: on just enough room, on room that is short by one, and on none.
+    fn read(&mut self, file: &[u8], room: usize) {
+        self.asked.push('r');
+        put_row(&mut self.asked, file);
+        let (result, sizes) = wanted::of_read(file, room);
+        self.rooms(result, &[(room, &sizes)]);
+    }
+
+    /// A job through all entries: on just enough room, on room that is short by one, and on none.
     fn job(&mut self, job: &Job) {
         let n = job.0.len();
         for short in [0, 1, n] {
@@ -99,6 +106,10 @@ impl Talk {
         self.job_of_file(&file, 3, 0);
         for end in [0, 1, 2, 13, 14, 15, file.len() - 1] {
             self.job_of_file(&file[..end], 2, 6 + 2 * n);
+            self.read(&file[..end], 4);
+        }
+        for room in [4, 3, 0] {
+            self.read(&file, room);
         }
         for room in [file.len(), file.len() - 1, 0] {
             self.write(&sizes, &bodies, room);

@@ -1,7 +1,6 @@
 //! The program `listing`: the lines that it prints for job files, good and refused.
 
-use station_tests::files::MOST_BYTES;
-use station_tests::jobs::{examples, file_of, Job};
+use station_tests::jobs::{examples, file_of, Job, MOST_BYTES};
 use station_tests::matching::{constants, example_a, example_c};
 use station_tests::programs::listing;
 use station_tests::table::{variable, words, MOST_WORDS};

@@ -12,11 +12,12 @@ use std::collections::BTreeMap;
 const LIMIT: u64 = 2_048;
 const LIMITED: [&str; 2] = ["station_lent", "station_check"];
 
-const ENTRIES: [&str; 4] = [
+const ENTRIES: [&str; 5] = [
     "station_match",
     "station_lent",
     "station_check",
     "station_write",
+    "station_read",
 ];
 
 /// Functions as objdump would list them, each instruction at the next address. `-> g` names g.

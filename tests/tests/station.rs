@@ -2,8 +2,7 @@
 //! buffers beside it.
 
 use station_tests::checking::checked_on;
-use station_tests::files::{BODY, CONTENTS, FILE};
-use station_tests::jobs::{bodies_of, examples, file_of, sizes_of, Job};
+use station_tests::jobs::{bodies_of, examples, file_of, sizes_of, Job, BODY, CONTENTS, FILE};
 use station_tests::matching::{example_a, example_b, example_c};
 use station_tests::station::{check, match_job, match_lent, write, JOB};
 use station_tests::table::{

@@ -1,8 +1,8 @@
 -- Which job is chosen, and by which of the six numbers a call is refused.
 --
--- In order: no row has number 0 and none applies at two places (`host-positive`, `host-once`); the file's rows (`file-answered`,
--- `early-file`); the job's n and p by the row of sizes (`chosen`); none of the six (`none-early`); these six write nothing
--- (`early-silent`, `refused-early`). Assumes nothing.
+-- In order: no row has number 0 and none applies at two places (`file-positive`, `host-positive`, `host-once`); the file's
+-- rows (`file-answered`, `early-file`); the job's n and p by the row of sizes (`chosen`); none of the six (`none-early`); these
+-- six write nothing (`early-silent`, `refused-early`). Assumes nothing.
 use mathlib.Core.Path.{_≡_, refl, sym, ap, _∙_, subst}
 use mathlib.Core.Bool.{true}
 use mathlib.Core.Logic.{_⊎_, inl, inr}
@@ -28,7 +28,7 @@ use Rattle.host.proofs.ReportLaws.{room-untouched}
 
 -- ---- the rows
 
-file-positive : (row : FileRow) → fileNumber row ≡ 0 → ⊥
+pub file-positive : (row : FileRow) → fileNumber row ≡ 0 → ⊥
 unfolding fileNumber
 file-positive FILE-ROOM e = omega arith
 file-positive FILE e = omega arith

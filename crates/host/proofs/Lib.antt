@@ -3,3 +3,4 @@ pub mod ReportLaws
 pub mod ChoiceLaws
 pub mod CutLaws
 pub mod JobLaws
+pub mod SizesLaws

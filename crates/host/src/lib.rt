@@ -1,14 +1,16 @@
 // The work behind the entries for C: a job out of a job file, matched on rows of its size, with the answer written into the
-// room; and the numbers of an answer as one. Crate station is the entries themselves.
+// room; a file's sizes; and the numbers of an answer as one. Crate station is the entries themselves.
 pub mod checked;
 mod choice;
 mod found;
 mod job;
 pub mod matched;
 mod report;
+mod sizes;
 
 ghost use Rattle.host.specs.Host.{HostOf};
 use choice::Chosen;
+pub use sizes::read_sizes;
 
 // The answer for the job of a number, from 1, in a job file, and the report of it in the room.
 pub fn match_job(file: &[u8], job: u32, room: &mut [u8]) -> u16

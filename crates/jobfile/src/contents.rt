@@ -59,7 +59,7 @@ fn judge_bodies(file: &[u8], jobs: usize) -> FileAnswer
 }
 
 // The answer for a file: the first of 12, 13 and 14 that applies, or 0.
-pub(crate) fn judge(file: &[u8]) -> FileAnswer
+pub fn judge(file: &[u8]) -> FileAnswer
     ensures { λ r. ⌜ Judged (now (file .entry)) r ⌝ }
 {
     if file.len() < 2 {

@@ -26,7 +26,7 @@ fn size_at(file: &[u8], i: usize) -> u16
 }
 
 // Puts the sizes of a file, so many as are counted, over the front of row. The entries after them stay.
-fn put_sizes(file: &[u8], count: usize, row: &mut [u16])
+pub fn put_sizes(file: &[u8], count: usize, row: &mut [u16])
     requires { ⌜ (contentsEnd (countIn (now file)) ≤ length (now file)) × (count ≡ 2 * countIn (now file)) × (count ≤ length (now row)) ⌝ }
     ensures { λ _. ⌜ now (row .exit) ≡ sizesIn (now (file .entry)) ++ drop count (now (row .entry)) ⌝ }
 {

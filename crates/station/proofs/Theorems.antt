@@ -1,7 +1,7 @@
--- Two results that an entry's contract allows are equal: `host-only`, `lent-only`, `check-entry-only`, `written-only`.
--- Assumes nothing.
+-- Two results that an entry's contract allows are equal: `host-only`, `lent-only`, `check-entry-only`, `written-only`,
+-- `sizes-only`. Assumes nothing.
 use mathlib.Core.Path.{_≡_, sym, ap, ap₂, _∙_}
-use mathlib.Core.List.{List}
+use mathlib.Core.List.{List, [], _∷_, _++_}
 use Prim.Native.Nat.{ℕ}
 use native.Mathlib.Decide.{ℕ-discrete}
 use Rattle.graphs.specs.Partition.{joins}
@@ -14,11 +14,14 @@ use Rattle.checker.proofs.OneCheck.{check-only}
 use Rattle.matcher.specs.Match.{numberOf, placeOf, joinsOf}
 use Rattle.matcher.specs.declared.answer.Matched.{Matched}
 use Rattle.matcher.proofs.OneMatch.{match-only}
+use Rattle.jobfile.specs.Faults.{ROOM, number as fileNumber, readOrder}
 use Rattle.jobfile.specs.Writer.{numberOf as writeNumber}
 use Rattle.jobfile.proofs.WriteAnswers.{write-only}
 use Rattle.host.specs.AsOne.{asOne}
 use Rattle.host.specs.Host.{tableOf, number, HostFault, hostOrder, reportOf, roomAfter, HostOf}
+use Rattle.host.specs.Sizes.{SizesFault, SizesOf}
 use Rattle.host.proofs.ChoiceLaws.{host-once}
+use Rattle.host.proofs.SizesLaws.{sizes-once}
 use Rattle.station.specs.Entries.{LentOf, CheckedOf, WrittenOf}
 
 module _ {bytes : List ℕ} {job : ℕ} {room : List ℕ} {r s : ℕ} {room₁ room₂ : List ℕ} (a : HostOf bytes job room r room₁) (b : HostOf bytes job room s room₂) where
@@ -60,3 +63,23 @@ check-entry-only a b =
 
 pub written-only : {sizes bodies room room₁ room₂ : List ℕ} {r s : ℕ} → WrittenOf sizes bodies room r room₁ → WrittenOf sizes bodies room s room₂ → (r ≡ s) × (room₁ ≡ room₂)
 written-only a b = let same = write-only (a .written) (b .written) in (a .is ∙ ap writeNumber (same .0) ∙ sym (b .is), same .1)
+
+module _ {bytes sizes sizes₁ sizes₂ : List ℕ} {r s : ℕ} (a : SizesOf bytes sizes r sizes₁) (b : SizesOf bytes sizes s sizes₂) where
+  same-answer : (a .answer ≡ b .answer) × (a .place ≡ b .place)
+  same-answer =
+      answered-only fileNumber (SizesFault bytes sizes) (sizes-once bytes sizes) (readOrder ++ (ROOM ∷ [])) (a .answer) (a .place) (b .answer) (b .place) (a .answered) (b .answered)
+
+  jobs-and-sizes : Dec (a .answer ≡ 0) → (a .jobs ≡ b .jobs) × (sizes₁ ≡ sizes₂)
+  jobs-and-sizes (yes z) =
+      let x = a .given z in
+      let y = b .given (sym (same-answer .0) ∙ z) in
+      (x .0 ∙ sym (y .0), x .1 ∙ sym (y .1))
+  jobs-and-sizes (no z) =
+      let x = a .refused z in
+      let y = b .refused (λ e. z (same-answer .0 ∙ e)) in
+      (x .0 ∙ sym (y .0), x .1 ∙ sym (y .1))
+
+  pub sizes-only : (r ≡ s) × (sizes₁ ≡ sizes₂)
+  sizes-only =
+      let rest : (a .jobs ≡ b .jobs) × (sizes₁ ≡ sizes₂) = jobs-and-sizes (ℕ-discrete (a .answer) 0) in
+      (a .is ∙ ap₂ (λ (q p : ℕ). asOne q p (a .jobs)) (same-answer .0) (same-answer .1) ∙ ap (asOne (b .answer) (b .place)) (rest .0) ∙ sym (b .is), rest .1)

@@ -1,2 +1,3 @@
--- What the entries on lent buffers promise. The host call's promise is `HostOf` of crate host.
+-- What the entries on lent buffers promise. The promises of the host call and of the reader are `HostOf` and `SizesOf` of crate
+-- host.
 pub mod Entries

@@ -1,10 +1,11 @@
 // What the host program calls, in C's plain numbers and lent rows: a job out of a job file, a match and a table check on
-// lent buffers, and the writer of job files. The work is done by the crates before it, so that this one is proved in seconds.
+// lent buffers, and the writer and the reader of job files. The work is done by the crates before it, so that this one is proved in seconds.
 //
-// No entry asks anything of its caller. A definition (`HostOf` of crate host, and those of specs/) says for each what it
-// returns and what it leaves in the rows that it is lent, and a theorem of proofs/Theorems.antt that it says so of one result
-// only.
+// No entry asks anything of its caller. A definition (`HostOf` and `SizesOf` of crate host, and those of specs/) says for each
+// what it returns and what it leaves in the rows that it is lent, and a theorem of proofs/Theorems.antt that it says so of one
+// result only.
 ghost use Rattle.host.specs.Host.{HostOf};
+ghost use Rattle.host.specs.Sizes.{SizesOf};
 ghost use Rattle.station.specs.Entries.{LentOf, CheckedOf, WrittenOf};
 
 // The answer for the job of a number, from 1, in a job file.
@@ -46,4 +47,15 @@ pub extern "C" fn station_write(sizes: &[u16], bodies: &[u8], room: &mut [u8]) -
     ensures { λ r. ⌜ WrittenOf (now (sizes .entry)) (now (bodies .entry)) (now (room .entry)) r (now (room .exit)) ⌝ }
 {
     jobfile::answers::write_number(jobfile::write(sizes, bodies, room))
+}
+
+// Answer + 65,536 x place + 4,294,967,296 x J of a job file, and its 2J sizes.
+//
+// 12, 13 and 14 are the file's, and 2 is for room for fewer than 2J sizes: these four write nothing, and their J is 0. On 0 the
+// first 2J entries are n, p, n, p, .., and the entries after them as they were.
+#[no_mangle]
+pub extern "C" fn station_read(file: &[u8], sizes: &mut [u16]) -> u64
+    ensures { λ r. ⌜ SizesOf (now (file .entry)) (now (sizes .entry)) r (now (sizes .exit)) ⌝ }
+{
+    host::read_sizes(file, sizes)
 }

@@ -1,11 +1,10 @@
 //! Calls that together reach every instruction of the library: random and damaged jobs, and the edges of
 //! every size that the code tells apart.
 
-use super::{check, lent, match_job, write, write_behind, Call};
-use crate::files::MOST_BYTES;
+use super::{check, lent, match_job, read, write, write_behind, Call};
 use crate::independent::filed;
 use crate::independent::jobs::job;
-use crate::jobs::{bodies_of, file_from, in_pairs, sizes_of, Job};
+use crate::jobs::{bodies_of, file_from, in_pairs, sizes_of, Job, MOST_BYTES};
 use crate::large_tables::{chains, row_of_variables, towers, wide_blocks};
 use crate::matching::{constants, list};
 use crate::random::Numbers;
@@ -14,7 +13,7 @@ use crate::table::{constant, variable, words, MOST_PAIRS, MOST_WORDS};
 /// Larger tables take long, and are no other than small ones to all but the edges.
 const MOST_RANDOM_WORDS: usize = 1_000;
 
-/// A random job through all four entries.
+/// A random job through all entries.
 fn random(numbers: &mut Numbers, calls: &mut Vec<Call>) {
     let made = job(numbers);
     if made.table.len() > MOST_RANDOM_WORDS {
@@ -31,12 +30,14 @@ fn random(numbers: &mut Numbers, calls: &mut Vec<Call>) {
     let room = filed::room(numbers, file.len());
     calls.push(write(numbers, &sent.sizes, &sent.bodies, room));
     filed::underway(numbers, &mut file);
+    let room = filed::room(numbers, 2 * sent.jobs);
+    calls.push(read(numbers, &file, room));
     let asked = filed::number(numbers, sent.own_number, sent.jobs);
     let room = filed::room(numbers, 6 + 2 * n);
     calls.push(match_job(numbers, &file, asked, room));
 }
 
-/// A job through all four entries, with just enough room.
+/// A job through all entries, with just enough room.
 fn exact(numbers: &mut Numbers, job: Job, calls: &mut Vec<Call>) {
     let n = job.0.len();
     calls.push(lent(numbers, &job.0, &job.1, [n, 4 * n]));
@@ -46,6 +47,7 @@ fn exact(numbers: &mut Numbers, job: Job, calls: &mut Vec<Call>) {
     let file = file_from(&sizes, &bodies);
     calls.push(match_job(numbers, &file, 1, 6 + 2 * n));
     calls.push(write(numbers, &sizes, &bodies, file.len()));
+    calls.push(read(numbers, &file, 2));
 }
 
 /// Tables of variables, all joined, and of constants.
@@ -100,6 +102,10 @@ fn files(numbers: &mut Numbers, calls: &mut Vec<Call>) {
         let length = 2 + 6 * jobs + bytes;
         calls.push(write(numbers, &sizes, &bodies, length));
         calls.push(write_behind(numbers, &sizes, &bodies, length));
+        let file = file_from(&sizes, &bodies);
+        for room in [2 * jobs, (2 * jobs).saturating_sub(1)] {
+            calls.push(read(numbers, &file, room));
+        }
     }
     // the longest file, and one word more
     let longest = (MOST_BYTES - 8) / 4;

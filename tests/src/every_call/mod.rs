@@ -92,6 +92,7 @@ impl<'a> Memory<'a> {
             Entry::Check => b'c',
             Entry::Match => b'm',
             Entry::Write => b'w',
+            Entry::Read => b'r',
         };
         let mut header = vec![u32::from(letter), job, self.before.len() as u32];
         header.extend(self.rows.iter().map(|row| row.0 as u32));
@@ -152,4 +153,12 @@ pub fn write_behind(numbers: &mut Numbers, sizes: &[u16], bodies: &[u8], room: u
     memory.read(bodies, 1);
     memory.lent_behind(room, &left, 1);
     memory.call(Entry::Write, 0, result)
+}
+
+pub fn read(numbers: &mut Numbers, file: &[u8], room: usize) -> Call {
+    let (result, left) = wanted::of_read(file, room);
+    let mut memory = Memory::new(numbers);
+    memory.read(file, 1);
+    memory.lent(room, &left, 2);
+    memory.call(Entry::Read, 0, result)
 }

@@ -1,9 +1,9 @@
-//! One random job through the four entries of the station, each against its own naive judge.
+//! One random job through the entries of the station, each against its own naive judge.
 
 use super::jobs::{job, Job};
 use super::judge::{check, judge, wrong_as_replacement, Trees};
 use super::seen::{Entry, Seen};
-use super::{filed, host, jobfile};
+use super::{filed, host, jobfile, wanted};
 use crate::checking::checked_on;
 use crate::jobs::file_from;
 use crate::matching::{matched_on, Given};
@@ -74,6 +74,7 @@ fn in_a_file(numbers: &mut Numbers, job: &Job, wanted: &Given, seen: &mut Seen) 
     write(numbers, &sent.sizes, &sent.bodies, &file, seen);
 
     filed::underway(numbers, &mut file);
+    read(numbers, &file, 2 * sent.jobs, seen);
     let asked = filed::number(numbers, sent.own_number, sent.jobs);
     let room = filed::room(numbers, 6 + 2 * own.0.len());
     let mut room = numbers.bytes(room);
@@ -108,4 +109,16 @@ fn write(numbers: &mut Numbers, sizes: &[u16], bodies: &[u8], file: &[u8], seen:
     assert_eq!(station::write(sizes, bodies, &mut room), answer);
     assert_eq!(room, left);
     seen.answer(Entry::Write, answer);
+}
+
+fn read(numbers: &mut Numbers, file: &[u8], sizes: usize, seen: &mut Seen) {
+    let room = filed::room(numbers, sizes);
+    let mut room = numbers.entries(room);
+    let mut left = room.clone();
+    let (result, sizes) = wanted::of_read(file, room.len());
+    left[..sizes.len()].copy_from_slice(&sizes);
+    let (answer, place, jobs) = station::read(file, &mut room);
+    assert_eq!(wanted::as_one(answer, place, jobs), result);
+    assert_eq!(room, left);
+    seen.answer(Entry::Read, answer);
 }

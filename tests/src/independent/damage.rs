@@ -1,6 +1,6 @@
 //! Ways in which a good job becomes one to refuse, or nearly.
 
-use crate::files::MOST_BYTES;
+use crate::jobs::MOST_BYTES;
 use crate::random::Numbers;
 use crate::table::{argument_count, constant, function, pointer, variable};
 

@@ -1,8 +1,8 @@
 //! The job file, read number by number as document 01 says it, and what its writer refuses.
 
 use super::faults::Fault;
-use crate::files::{BODY, CONTENTS, FILE, MOST_BYTES, ROOM};
-use crate::jobs::Job;
+use crate::jobs::{Job, BODY, CONTENTS, FILE, MOST_BYTES, MOST_JOBS};
+use crate::table::ROOM;
 
 /// The number of 16 bits at a place, low byte first.
 pub fn number(bytes: &[u8], at: usize) -> usize {
@@ -15,7 +15,7 @@ pub fn fault(file: &[u8]) -> Option<Fault> {
         return Some((FILE, 0));
     }
     let jobs = number(file, 0);
-    if jobs == 0 || jobs > 64 || 2 + 6 * jobs > file.len() {
+    if jobs == 0 || jobs > MOST_JOBS || 2 + 6 * jobs > file.len() {
         return Some((CONTENTS, 0));
     }
     let mut end = 2 + 6 * jobs;
@@ -32,6 +32,14 @@ pub fn fault(file: &[u8]) -> Option<Fault> {
     None
 }
 
+/// The sizes of a good file: n, p, n, p, ..
+pub fn sizes(file: &[u8]) -> Vec<u16> {
+    let entries = file[2..2 + 6 * number(file, 0)].chunks(6);
+    entries
+        .flat_map(|entry| [2, 4].map(|at| number(entry, at) as u16))
+        .collect()
+}
+
 /// The job of a number, from 1, of a good file.
 pub fn job_of(file: &[u8], job: usize) -> Job {
     let entry = 2 + 6 * (job - 1);
@@ -46,7 +54,7 @@ pub fn job_of(file: &[u8], job: usize) -> Job {
 /// The number by which the writer refuses sizes, bodies of so many bytes and so much room.
 pub fn refusal(sizes: &[u16], bodies: usize, room: usize) -> Option<u16> {
     let jobs = sizes.len() / 2;
-    if sizes.len() % 2 == 1 || jobs == 0 || jobs > 64 {
+    if sizes.len() % 2 == 1 || jobs == 0 || jobs > MOST_JOBS {
         return Some(CONTENTS);
     }
     if bodies != sizes.iter().map(|&size| 4 * usize::from(size)).sum() {

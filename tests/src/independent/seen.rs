@@ -11,13 +11,15 @@ pub enum Entry {
     Check,
     Match,
     Write,
+    Read,
 }
 
-const ENTRIES: [(&str, Entry); 4] = [
+const ENTRIES: [(&str, Entry); 5] = [
     ("station_lent", Entry::Lent),
     ("station_check", Entry::Check),
     ("station_match", Entry::Match),
     ("station_write", Entry::Write),
+    ("station_read", Entry::Read),
 ];
 
 impl Entry {
@@ -27,7 +29,7 @@ impl Entry {
             Entry::Lent => (0..=11).collect(),
             Entry::Check => (0..=7).collect(),
             Entry::Match => (0..=15).collect(),
-            Entry::Write => vec![0, 2, 12, 13, 14],
+            Entry::Write | Entry::Read => vec![0, 2, 12, 13, 14],
         }
     }
 }
@@ -42,7 +44,7 @@ fn range(number: usize) -> usize {
 #[derive(Default)]
 pub struct Seen {
     /// By entry and answer.
-    pub answers: [[usize; 16]; 4],
+    pub answers: [[usize; 16]; 5],
     pub unified_as_trees: usize,
     pub too_large_for_trees: usize,
     pub answers_applied: usize,
@@ -126,7 +128,7 @@ impl Seen {
         for (name, entry) in ENTRIES {
             println!("  {name:13} {:?}", self.answers[entry as usize]);
         }
-        println!("  all four      {:?}", self.all_answers());
+        println!("  all five      {:?}", self.all_answers());
     }
 
     pub fn print(&self) {

@@ -4,18 +4,25 @@ use super::judge::{check, judge};
 use super::{host, jobfile};
 use crate::jobs::file_from;
 use crate::matching::Given;
-use crate::table::ACCEPTED;
+use crate::table::{ACCEPTED, ROOM};
 
 /// The result, and the fronts of the class and the work buffer.
 pub type OnBuffers = (u64, [Vec<u16>; 2]);
 
+/// The result, and the front of the row of sizes.
+pub type InSizes = (u64, Vec<u16>);
+
 /// The result, and the front of the room.
 pub type InRoom = (u64, Vec<u8>);
 
+/// Three numbers as an entry returns them.
+pub fn as_one(answer: u16, place: u16, third: u16) -> u64 {
+    u64::from(answer) + (u64::from(place) << 16) + (u64::from(third) << 32)
+}
+
 fn on_buffers(given: &Given, n: usize) -> OnBuffers {
-    let numbers = [given.answer, given.place, given.joins].map(u64::from);
-    let result = numbers[0] + (numbers[1] << 16) + (numbers[2] << 32);
     let (class, work) = given.left(n);
+    let result = as_one(given.answer, given.place, given.joins);
     (result, [class, work])
 }
 
@@ -44,4 +51,16 @@ pub fn of_write(sizes: &[u16], bodies: &[u8], room: usize) -> InRoom {
         Some(refusal) => (u64::from(refusal), Vec::new()),
         None => (u64::from(ACCEPTED), file_from(sizes, bodies)),
     }
+}
+
+pub fn of_read(file: &[u8], room: usize) -> InSizes {
+    if let Some((answer, place)) = jobfile::fault(file) {
+        return (as_one(answer, place as u16, 0), Vec::new());
+    }
+    let sizes = jobfile::sizes(file);
+    if room < sizes.len() {
+        return (as_one(ROOM, 0, 0), Vec::new());
+    }
+    let jobs = sizes.len() as u16 / 2;
+    (as_one(ACCEPTED, 0, jobs), sizes)
 }

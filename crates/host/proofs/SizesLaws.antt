@@ -1,0 +1,69 @@
+-- The sizes that are read, by the file's answer and the room. In order: no row applies at two places (`sizes-once`); a refused
+-- file (`sizes-refused`); an accepted one (`accepted-file`), with a row that is too short (`sizes-short`) or long enough
+-- (`sizes-copied`). Assumes nothing.
+use mathlib.Core.Path.{_≡_, refl, sym, ap, _∙_, subst}
+use mathlib.Core.Logic.{inl, inr}
+use mathlib.Core.List.{List, [], _∷_, _++_}
+use Prim.Native.Nat.{ℕ, _+_, _*_, _≤_, _<_}
+use native.Mathlib.Omega.{arith}
+use lib.ListN.{length, drop}
+use Rattle.table.specs.Answers.{Answered}
+use Rattle.table.proofs.OneAnswer.{refused-first, passed-first}
+use Rattle.jobfile.specs.File.{countIn, sizesIn, GoodFile}
+use Rattle.jobfile.specs.Faults.{Row, ROOM, FILE, CONTENTS, BODY, number, readOrder}
+use Rattle.jobfile.specs.Reader.{numberOf, placeOf, Judged}
+use Rattle.jobfile.specs.declared.answers.FileAnswer.{FileAnswer}
+use Rattle.jobfile.proofs.ReaderLaws.{read-once, good-judged, judged-good, good-number}
+use Rattle.host.specs.Sizes.{SizesFault, SizesOf}
+use Rattle.host.proofs.ChoiceLaws.{file-positive}
+
+pub sizes-once : (bytes sizes : List ℕ) (row : Row) (p q : ℕ) → SizesFault bytes sizes row p → SizesFault bytes sizes row q → p ≡ q
+sizes-once bytes sizes FILE p q a b = read-once FILE p q a b
+sizes-once bytes sizes CONTENTS p q a b = read-once CONTENTS p q a b
+sizes-once bytes sizes BODY p q a b = read-once BODY p q a b
+sizes-once bytes sizes ROOM p q (short, e) (also-short, f) = e ∙ sym f
+
+pub sizes-refused : {bytes : List ℕ} (sizes : List ℕ) (answer : FileAnswer) {n p : ℕ} → Judged bytes answer → n ≡ numberOf answer → (n ≡ 0 → ⊥) → p ≡ placeOf answer
+    → SizesOf bytes sizes (n + 65536 * p) sizes
+sizes-refused {bytes} sizes answer judged e nonzero f = record {
+  answer = numberOf answer;
+  place = placeOf answer;
+  jobs = 0;
+  is = omega (arith, e, f);
+  answered = refused-first number (SizesFault bytes sizes) readOrder (ROOM ∷ []) (numberOf answer) (placeOf answer) (λ z. nonzero (e ∙ z)) judged;
+  given = λ z. absurd (nonzero (e ∙ z));
+  refused = λ z. (refl, refl);
+}
+
+pub accepted-file : {bytes : List ℕ} (answer : FileAnswer) {n : ℕ} → Judged bytes answer → n ≡ numberOf answer → n ≡ 0 → GoodFile bytes
+accepted-file {bytes} answer judged e z = judged-good (subst (Judged bytes) (good-number answer (sym e ∙ z)) judged)
+
+module _ {bytes : List ℕ} (sizes : List ℕ) (good : GoodFile bytes) {jobs : ℕ} (counted : jobs ≡ countIn bytes) where
+  after-file : (a p : ℕ) → Answered number (SizesFault bytes sizes) (ROOM ∷ []) a p → Answered number (SizesFault bytes sizes) (readOrder ++ (ROOM ∷ [])) a p
+  after-file a p later = passed-first number (SizesFault bytes sizes) file-positive readOrder (ROOM ∷ []) 0 a p (good-judged good) later
+
+  pub sizes-short : length sizes < 2 * jobs → SizesOf bytes sizes 2 sizes
+  unfolding number
+  sizes-short short = record {
+    answer = 2;
+    place = 0;
+    jobs = 0;
+    is = refl;
+    answered = after-file 2 0 (inl (refl, (omega arith, refl)));
+    given = λ z. absurd (omega arith);
+    refused = λ z. (refl, refl);
+  }
+
+  no-room : 2 * jobs ≤ length sizes → (p : ℕ) → SizesFault bytes sizes ROOM p → ⊥
+  no-room enough p (short, at-0) = omega arith
+
+  pub sizes-copied : {after : List ℕ} → 2 * jobs ≤ length sizes → after ≡ sizesIn bytes ++ drop (2 * jobs) sizes → SizesOf bytes sizes (4294967296 * jobs) after
+  sizes-copied enough copied = record {
+    answer = 0;
+    place = 0;
+    jobs = jobs;
+    is = omega arith;
+    answered = after-file 0 0 (inr (no-room enough, (refl, refl)));
+    given = λ z. (counted, copied ∙ ap (λ (j : ℕ). sizesIn bytes ++ drop (2 * j) sizes) counted);
+    refused = λ nonzero. absurd (nonzero refl);
+  }
