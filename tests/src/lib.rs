@@ -10,8 +10,6 @@ use std::path::{Path, PathBuf};
 
 pub mod checking;
 pub mod every_call;
-pub mod files;
-pub mod ground;
 pub mod guarded;
 pub mod independent;
 pub mod jobs;

@@ -1,12 +1,19 @@
 //! The job file: each refusal of the reader and of the writer at its edge and one past it, the places,
 //! files read and written again, and a comparison with a second reader on many damaged files.
 
-use station_tests::files::{
-    bodies, body, pairs, read, words, write, BODY, CONTENTS, FILE, GOOD, MOST_BYTES, PLACES, ROOM,
+use station_tests::independent::host::report;
+use station_tests::independent::jobfile::{fault, job_of, number, sizes};
+use station_tests::jobs::{
+    bodies_of, examples, file_of, sizes_of, Job, BODY, CONTENTS, FILE, MOST_BYTES, MOST_JOBS,
 };
-use station_tests::independent::jobfile::{fault, number};
-use station_tests::jobs::{bodies_of, examples, file_of, sizes_of, Job};
+use station_tests::matching::{constants, matched_entries};
 use station_tests::programs::written_by;
+use station_tests::station::{match_job, read, write, JOB};
+use station_tests::table::{ACCEPTED as GOOD, MOST_PAIRS, MOST_WORDS, ROOM, SIZE};
+
+/// What stood in a row and in room before.
+const OLD: u16 = 0xabcd;
+const OLD_BYTE: u8 = 0xee;
 
 /// So many jobs of one word and one pair each.
 fn small(count: usize) -> Vec<Job> {
@@ -24,33 +31,40 @@ fn set16(file: &mut [u8], at: usize, number: u16) {
     file[at..at + 2].copy_from_slice(&number.to_le_bytes());
 }
 
+/// The reader's numbers, and that it leaves the sizes in front of a row of old entries, or nothing.
+fn read_into(file: &[u8], room: usize) -> (u16, u16, u16) {
+    let mut row = vec![OLD; room];
+    let found = read(file, &mut row);
+    let yielded = if found.0 == GOOD {
+        sizes(file)
+    } else {
+        Vec::new()
+    };
+    assert_eq!(row[..yielded.len()], yielded[..]);
+    assert!(row[yielded.len()..].iter().all(|&entry| entry == OLD));
+    found
+}
+
 /// The answer and place of a file; and that what it yields is as document 01 says, and that a good
 /// one is written again with the same bytes.
 fn answer(file: &[u8]) -> (u16, u16) {
-    let found = read(file);
-    let part = bodies(file);
+    let (answer, place, jobs) = read_into(file, 2 * MOST_JOBS);
     let wanted = fault(file).unwrap_or((GOOD, 0));
-    assert_eq!((found.answer, usize::from(found.place)), wanted);
-    assert_eq!(found.row.len(), PLACES);
-    assert!(found.row[found.count..].iter().all(|&x| x == 0), "unused");
-    if found.answer == GOOD {
-        let jobs = number(file, 0);
-        assert_eq!(found.count, 2 * jobs);
-        for k in 0..jobs {
-            assert_eq!(found.row[2 * k] as usize, number(file, 2 + 6 * k + 2));
-            assert_eq!(found.row[2 * k + 1] as usize, number(file, 2 + 6 * k + 4));
-        }
-        assert_eq!(part, file[2 + 6 * jobs..].to_vec());
-        let mut room = vec![0xee; file.len() + 3];
-        assert_eq!(write(&found.row[..found.count], &part, &mut room), GOOD);
+    assert_eq!((answer, usize::from(place)), wanted);
+    let mut room = vec![OLD_BYTE; file.len() + 3];
+    if answer == GOOD {
+        let jobs = usize::from(jobs);
+        assert_eq!(jobs, number(file, 0));
+        let bodies = &file[2 + 6 * jobs..];
+        assert_eq!(write(&sizes(file), bodies, &mut room), GOOD);
         assert_eq!(room[..file.len()], file[..]);
-        assert_eq!(room[file.len()..], [0xee; 3]);
+        assert_eq!(room[file.len()..], [OLD_BYTE; 3]);
     } else {
-        assert_eq!(found.count, 0);
-        assert!(part.is_empty());
-        assert!(body(file, 1).is_empty());
+        assert_eq!(jobs, 0);
+        assert_eq!(match_job(file, 1, &mut room), answer);
+        assert!(room.iter().all(|&byte| byte == OLD_BYTE));
     }
-    (found.answer, found.place)
+    (answer, place)
 }
 
 #[test]
@@ -162,47 +176,79 @@ fn sizes_at_their_limits() {
     assert_eq!(answer(&most), (BODY, 1));
 }
 
+/// One entry less than the sizes need, none, just enough, and more; a file that is refused is refused with
+/// no room too.
 #[test]
-fn jobs_are_taken_out() {
-    let jobs = examples();
-    let file = file_of(&jobs);
-    for (k, (table, list)) in jobs.iter().enumerate() {
-        let own = body(&file, k + 1);
-        let mut row = vec![0; table.len()];
-        words(&own, &mut row);
-        assert_eq!(&row, table);
-        let mut addresses = vec![0; list.len()];
-        pairs(&own[4 * table.len()..], &mut addresses);
-        assert_eq!(&addresses, list);
+fn room_for_the_sizes() {
+    for jobs in [1, 2, 63, 64] {
+        let file = file_of(&small(jobs));
+        let refused = (ROOM, 0, 0);
+        assert_eq!(read_into(&file, 0), refused);
+        assert_eq!(read_into(&file, 2 * jobs - 1), refused);
+        for room in [2 * jobs, 2 * jobs + 1, 200] {
+            assert_eq!(read_into(&file, room), (GOOD, 0, jobs as u16));
+        }
+        let cut = &file[..file.len() - 1];
+        assert_eq!(read_into(cut, 0), (BODY, jobs as u16, 0));
+        assert_eq!(read_into(&file[..2], 0), (CONTENTS, 0, 0));
+        assert_eq!(read_into(&file[..1], 0), (FILE, 0, 0));
     }
-    assert!(body(&file, 0).is_empty());
-    assert!(body(&file, 3).is_empty());
-    assert!(body(&file, usize::MAX).is_empty());
 }
 
+/// That each job of a good file is matched as its words and pairs are on lent buffers.
+fn assert_jobs_taken(file: &[u8]) {
+    let jobs = number(file, 0);
+    for job in 1..=jobs {
+        let (table, list) = job_of(file, job);
+        let given = matched_entries(&table, &list);
+        let report = match given.answer {
+            SIZE => Vec::new(),
+            _ => report(&given, table.len()),
+        };
+        let mut room = vec![OLD_BYTE; report.len() + 3];
+        assert_eq!(match_job(file, job as u32, &mut room), given.answer);
+        assert_eq!(room[..report.len()], report[..]);
+        assert_eq!(room[report.len()..], [OLD_BYTE; 3]);
+    }
+    for none in [0, jobs as u32 + 1, u32::MAX] {
+        assert_eq!(match_job(file, none, &mut [0; 64]), JOB);
+    }
+}
+
+/// Every byte of a body counts where it stands: each is changed in turn.
 #[test]
-fn copies_stop_at_either_end() {
-    let bytes: Vec<u8> = (1..=11).collect();
-    let mut row = [9; 4];
-    words(&bytes, &mut row);
-    assert_eq!(row, [0x0403_0201, 0x0807_0605, 9, 9]);
-    let mut short = [9; 1];
-    words(&bytes, &mut short);
-    assert_eq!(short, [0x0403_0201]);
-    let mut addresses = [9; 6];
-    pairs(&bytes, &mut addresses);
-    assert_eq!(addresses, [0x0201, 0x0403, 0x0605, 0x0807, 0x0a09, 9]);
-    words(&bytes, &mut []);
-    pairs(&[], &mut addresses);
-    assert_eq!(addresses[0], 0x0201);
+fn jobs_are_taken_out() {
+    let mut jobs = examples();
+    jobs.extend([(vec![], vec![]), (vec![0], vec![]), examples()[0].clone()]);
+    let file = file_of(&jobs);
+    assert_jobs_taken(&file);
+    for at in 2 + 6 * jobs.len()..file.len() {
+        for change in [1, 2, 128] {
+            let mut changed = file.clone();
+            changed[at] ^= change;
+            assert_jobs_taken(&changed);
+        }
+    }
+}
+
+/// Tables and lists that just fill the rows that they are copied into, and one past them.
+#[test]
+fn jobs_of_every_size() {
+    for n in [1, 2, 63, 64, 65, 511, 512, 513, MOST_WORDS - 1, MOST_WORDS] {
+        for pairs in [0, 1, MOST_PAIRS - 1, MOST_PAIRS, MOST_PAIRS + 1, 300] {
+            let list: Vec<u16> = (0..2 * pairs).map(|i| (i % n) as u16).collect();
+            assert_jobs_taken(&file_of(&[(constants(n), list), (vec![0], vec![])]));
+        }
+    }
+    assert_jobs_taken(&file_of(&[(constants(MOST_WORDS + 1), vec![])]));
 }
 
 /// The writer's refusal of what it is sent; and that it writes nothing then.
 fn refusal(sizes: &[u16], bodies: &[u8], room: usize) -> u16 {
-    let mut bytes = vec![0xee; room];
+    let mut bytes = vec![OLD_BYTE; room];
     let answer = write(sizes, bodies, &mut bytes);
     assert_ne!(answer, GOOD);
-    assert!(bytes.iter().all(|&b| b == 0xee));
+    assert!(bytes.iter().all(|&b| b == OLD_BYTE));
     answer
 }
 
@@ -234,10 +280,10 @@ fn the_writer_writes() {
         let jobs = small(count);
         let file = file_of(&jobs);
         for more in [0, 5] {
-            let mut room = vec![0xee; file.len() + more];
+            let mut room = vec![OLD_BYTE; file.len() + more];
             assert_eq!(write(&sizes_of(&jobs), &bodies_of(&jobs), &mut room), GOOD);
             assert_eq!(room[..file.len()], file[..]);
-            assert!(room[file.len()..].iter().all(|&b| b == 0xee));
+            assert!(room[file.len()..].iter().all(|&b| b == OLD_BYTE));
         }
     }
     let mut room = vec![0; MOST_BYTES];
