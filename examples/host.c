@@ -1,5 +1,5 @@
-/* A host program: two small tables are put into a job file, each job is matched, and what the answers
- * say is printed in words; then the same tables and lists again on buffers that the host lends.
+/* A host program: two small tables are put into a job file, its sizes are read back, each job is matched, and
+ * what the answers say is printed in words; then the same tables and lists again on buffers that the host lends.
  *
  * It compiles as C and as C++.
  */
@@ -55,18 +55,18 @@ static size_t put(uint8_t *bytes, size_t at, uint32_t number, int size) {
 
 /* What stands at an address: a variable's label, a constant's, a function's. */
 static void print_node(const uint32_t *table, uint16_t at) {
-    static const char *const kinds[] = {"variable", "", "constant", "function"};
-    printf("%s %u at %u", kinds[(table[at] >> 16) - 16], (unsigned)(table[at] & 65535u), (unsigned)at);
-}
-
-static int is_variable(uint32_t word) {
-    return word >> 16 == 16;
+    uint16_t tag = STATION_TAG_OF(table[at]);
+    printf("%s %u at %u",
+           tag == STATION_TAG_VARIABLE   ? "variable"
+           : tag == STATION_TAG_CONSTANT ? "constant"
+                                         : "function",
+           (unsigned)STATION_CONTENT_OF(table[at]), (unsigned)at);
 }
 
 /* The bindings: each variable and the node that names its class. */
 static void print_bindings(const struct job *job, const uint16_t *classes) {
     for (uint16_t at = 1; at < job->words; at++)
-        if (is_variable(job->table[at])) {
+        if (STATION_TAG_OF(job->table[at]) == STATION_TAG_VARIABLE) {
             printf("  ");
             print_node(job->table, at);
             if (classes[at] == at)
@@ -108,12 +108,27 @@ static size_t write_file(uint8_t *file, size_t room) {
     }
     uint16_t answer = station_write(sizes, LENGTH(sizes), bodies, end, file, room);
     printf("a file of %u jobs: answer %u\n", (unsigned)LENGTH(jobs), (unsigned)answer);
-    return answer == 0 ? 2 + 6 * LENGTH(jobs) + end : 0;
+    return answer == STATION_ACCEPTED ? STATION_FILE_BYTES(LENGTH(jobs), end) : 0;
+}
+
+/* What a file holds, or where it is bad: for a host that did not write it. */
+static void read_file(const uint8_t *file, size_t length) {
+    uint16_t sizes[2 * STATION_MOST_JOBS];
+    uint64_t result = station_read(file, length, sizes, LENGTH(sizes));
+    printf("%u bytes: ", (unsigned)length);
+    if (STATION_ANSWER_OF(result) != STATION_ACCEPTED) {
+        printf("refused, answer %u at place %u\n", (unsigned)STATION_ANSWER_OF(result),
+               (unsigned)STATION_PLACE_OF(result));
+        return;
+    }
+    printf("%u jobs\n", (unsigned)STATION_JOBS_OF(result));
+    for (unsigned k = 0; k < STATION_JOBS_OF(result); k++)
+        printf("  job %u has %u words and a list of %u\n", k + 1, (unsigned)sizes[2 * k], (unsigned)sizes[2 * k + 1]);
 }
 
 /* Each job of the file, with one room used again. The room is read only where the answer wrote it. */
 static void match_file(const uint8_t *file, size_t length) {
-    uint8_t room[6 + 2 * MOST_WORDS];
+    uint8_t room[STATION_ROOM_BYTES(MOST_WORDS)];
     memset(room, 0xAA, sizeof room);
     for (uint32_t k = 1; k <= LENGTH(jobs); k++) {
         const struct job *job = &jobs[k - 1];
@@ -129,12 +144,12 @@ static void match_file(const uint8_t *file, size_t length) {
     printf("a job that is not there: answer %u\n",
            (unsigned)station_match(file, length, LENGTH(jobs) + 1, room, sizeof room));
     printf("a room one byte too short: answer %u\n",
-           (unsigned)station_match(file, length, 1, room, 6 + 2 * LENGTH(frames) - 1));
+           (unsigned)station_match(file, length, 1, room, STATION_ROOM_BYTES(LENGTH(frames)) - 1));
 }
 
 /* The same tables and lists on lent buffers, full of what an earlier list might have left. */
 static void match_lent(void) {
-    uint16_t classes[MOST_WORDS], work[4 * MOST_WORDS];
+    uint16_t classes[MOST_WORDS], work[STATION_WORK_ENTRIES(MOST_WORDS)];
     memset(classes, 0xAA, sizeof classes);
     memset(work, 0x55, sizeof work);
     for (size_t k = 0; k < LENGTH(jobs); k++) {
@@ -153,6 +168,9 @@ int main(void) {
     size_t length = write_file(file, sizeof file);
     if (length == 0)
         return 1;
+    printf("\nwhat the file holds, and without its last byte:\n");
+    read_file(file, length);
+    read_file(file, length - 1);
     printf("\nby the job file:\n");
     match_file(file, length);
     printf("\non lent buffers:\n");

@@ -13,7 +13,8 @@
  * ------------------
  * - No pointer is null, also where its length is 0.
  * - Each pointer is aligned for its type and leads to as many entries as its length says.
- * - Lent buffers do not overlap one another, nor the table, the list or the file.
+ * - Lent buffers do not overlap one another, nor what is read: the table, the list, the file, the sizes and
+ *   the bodies.
  * - One call at a time on one set of buffers.
  * - A dark frame is good for 48 hours. The station knows no clock: the host takes older frames out
  *   before it sends a list.
@@ -28,16 +29,42 @@
 extern "C" {
 #endif
 
+/* ---- version ----
+ *
+ * The first number grows when a program that was right before may be wrong now, the second when something is
+ * added. To compare: 10,000 x the first + 100 x the second + the third.
+ */
+#define STATION_VERSION "1.1.0"
+#define STATION_VERSION_NUMBER 10100
+
+/* ---- limits ---- */
+#define STATION_MOST_WORDS 4096    /* of a table, with word 0 */
+#define STATION_MOST_ARGUMENTS 255 /* of a function */
+#define STATION_MOST_PAIRS 256     /* of a list */
+#define STATION_MOST_JOBS 64       /* of a job file */
+#define STATION_MOST_FILE 32768    /* bytes of a job file */
+
+/* What must be lent: work entries for a table of n words (its class entries are n), bytes of room for the
+ * answer to a job of n words, and bytes for a file of so many jobs whose bodies have so many bytes. */
+#define STATION_WORK_ENTRIES(n) (4 * (size_t)(n))
+#define STATION_ROOM_BYTES(n) (6 + 2 * (size_t)(n))
+#define STATION_FILE_BYTES(jobs, bodies_len) (2 + 6 * (size_t)(jobs) + (size_t)(bodies_len))
+
 /* ---- answers ----
  *
- * Every call gives one of these numbers. The place says where: an address of the table for 3 to 6, the
- * number of a pair from 1 for 9 to 11, the number of an entry of the contents from 1 for 14, else 0.
+ * Every call gives one of these numbers. The place says where:
+ *   3, 5, 6     an address of the table
+ *   4           the address of the first word that cannot stand there; n, which is no address of the table,
+ *               if a block runs past the end
+ *   9, 10, 11   the number of a pair, from 1
+ *   14          the number of an entry of the contents, from 1; J + 1 if bytes follow the last of J bodies
+ * It is 0 for all others, and always for station_write, to which 12, 13 and 14 mean what stands with it.
  */
 enum station_answer {
     STATION_ACCEPTED = 0,
     STATION_SIZE = 1,      /* the table has 0 words, or over 4,096 */
     STATION_ROOM = 2,      /* a lent buffer is too short */
-    STATION_WORD = 3,      /* a word is none: tag, high bits, or a count of 0 or over 255 */
+    STATION_WORD = 3,      /* not a word: its tag, its high bits, or a count of 0 or over 255 */
     STATION_LAYOUT = 4,    /* the row of items breaks */
     STATION_POINTER = 5,   /* a pointer names no node */
     STATION_NAME = 6,      /* a variable's label stood earlier */
@@ -57,11 +84,23 @@ enum station_answer {
  * A word is tag x 65,536 + content. Word 0 of a table is the number 0. A function word is followed by a
  * count word and that many argument words, each a variable, a constant or a pointer.
  */
-#define STATION_VARIABLE(label) ((uint32_t)16 << 16 | (uint16_t)(label))
-#define STATION_CONSTANT(label) ((uint32_t)18 << 16 | (uint16_t)(label))
-#define STATION_FUNCTION(label) ((uint32_t)19 << 16 | (uint16_t)(label))
-#define STATION_POINTER_TO(address) ((uint32_t)20 << 16 | (uint16_t)(address))
-#define STATION_COUNT(arguments) ((uint32_t)24 << 16 | (uint16_t)(arguments))
+enum station_tag {
+    STATION_TAG_VARIABLE = 16,
+    STATION_TAG_CONSTANT = 18,
+    STATION_TAG_FUNCTION = 19,
+    STATION_TAG_POINTER = 20,
+    STATION_TAG_COUNT = 24
+};
+
+#define STATION_VARIABLE(label) ((uint32_t)STATION_TAG_VARIABLE << 16 | (uint16_t)(label))
+#define STATION_CONSTANT(label) ((uint32_t)STATION_TAG_CONSTANT << 16 | (uint16_t)(label))
+#define STATION_FUNCTION(label) ((uint32_t)STATION_TAG_FUNCTION << 16 | (uint16_t)(label))
+#define STATION_POINTER_TO(address) ((uint32_t)STATION_TAG_POINTER << 16 | (uint16_t)(address))
+#define STATION_COUNT(arguments) ((uint32_t)STATION_TAG_COUNT << 16 | (uint16_t)(arguments))
+
+/* The tag of a word, which is none of these where a high bit is set, and its label, address or count. */
+#define STATION_TAG_OF(word) ((uint16_t)((uint32_t)(word) >> 16))
+#define STATION_CONTENT_OF(word) ((uint16_t)((word) & 65535u))
 
 /* ---- one job of a job file ----
  *
@@ -109,7 +148,8 @@ uint16_t station_write(const uint16_t *sizes, size_t sizes_len, const uint8_t *b
 
 /* Reads the sizes of a file: returns answer + 65,536 x place + 4,294,967,296 x J. The answers are 12, 13 and 14,
  * as for station_match, then 2 if there is room for fewer than 2J sizes; J is 0 on refusal. On 0 the first 2J
- * entries are n, p, n, p, ..; later entries stay, and a refusal writes nothing.
+ * entries are n, p, n, p, ..; later entries stay, and a refusal writes nothing. 2 * STATION_MOST_JOBS entries
+ * are always enough.
  */
 uint64_t station_read(const uint8_t *file, size_t file_len, uint16_t *sizes, size_t sizes_len);
 
