@@ -1,4 +1,5 @@
 pub mod HeadLaws
+pub mod KindLaws
 pub mod MeetingLaws
 pub mod MeetingsTable
 pub mod Tests

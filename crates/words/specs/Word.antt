@@ -1,7 +1,7 @@
 -- One word of the table, by document 01, "The word and the table". All is said of any number, also of one that is no word.
 -- Assumes nothing.
 use Prim.Native.Nat.{ℕ, _+_, _*_, _/_, _%_}
-use mathlib.Core.Bool.{Bool, cond}
+use mathlib.Core.Bool.{Bool, false, cond, _||_}
 use mathlib.Core.List.{List, [], _∷_}
 use lib.Dec.{eqb}
 use Rattle.words.specs.declared.kind.Kind.{Kind}
@@ -40,9 +40,19 @@ sameKind a b = eqb (tagNumber a) (tagNumber b)
 abbrev pub tableKinds : List Kind
 tableKinds = Variable ∷ Constant ∷ Function ∷ Pointer ∷ Count ∷ []
 
--- "Those three kinds of word are the nodes", in the order in which their meetings are kept
+-- "Those three kinds of word are the nodes", in the order in which their meetings are kept. An item begins with one of them too: "a
+-- variable, a constant, or a block", which is "a function word, a count word k, then k argument words".
 abbrev pub nodeKinds : List Kind
 nodeKinds = Variable ∷ Constant ∷ Function ∷ []
+
+-- "k argument words, each a variable, a constant or a pointer"
+abbrev pub argumentKinds : List Kind
+argumentKinds = Variable ∷ Constant ∷ Pointer ∷ []
+
+-- whether a kind is one of these
+abbrev pub isOneOf : List Kind → Kind → Bool
+isOneOf [] k = false
+isOneOf (j ∷ js) k = sameKind k j || isOneOf js k
 
 -- the first of these kinds that has the tag
 abbrev pub kindAmong : List Kind → ℕ → Kind
