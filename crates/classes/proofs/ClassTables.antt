@@ -12,8 +12,7 @@ use lib.Dec.{ltb}
 use lib.ListN.{length, getD, take, List·getD-eq-default}
 use lib.Seq.{getD-take, length-take-le}
 use Rattle.graphs.specs.Graph.{Symbols, Graph, nothing, variable, symbol, Node, variable-node, symbol-node, WellFormed}
-use Rattle.graphs.specs.Partition.{Pair, Sides, Same, itself, paired, Clash, Named, by-non-variable, by-variable, ClassTable, entry, bit, count, classes}
-use Rattle.graphs.specs.Log.{key}
+use Rattle.graphs.specs.Partition.{Pair, Sides, Same, itself, paired, Clash, Named, by-non-variable, by-variable, ClassTable, entry, bit, count, classes, key}
 use Rattle.graphs.proofs.Classes.{never, node-or-nothing, same-labels, same-nodes, together-one-entry, entry-together}
 use Rattle.graphs.proofs.Certificates.{key-symbol, key-variable, key-nothing, first-names}
 use Rattle.table.specs.Table.{TableSymbols, graphOf, childOf}

@@ -5,8 +5,7 @@ use mathlib.Core.List.{List}
 use Prim.Native.Nat.{ℕ, _≤_, _<_}
 use native.Mathlib.Omega.{arith}
 use lib.ListN.{length, set}
-use Rattle.graphs.specs.Partition.{entry}
-use Rattle.graphs.specs.Log.{key}
+use Rattle.graphs.specs.Partition.{entry, key}
 use Rattle.table.specs.Table.{graphOf}
 use Rattle.classes.specs.Steps.Forest.{Up, here, up, Forest, Shorter, Rooted}
 use Rattle.classes.proofs.Links.{up-join, up-key, up-back, shorter-none, halved, shorter-up, shorter-forest, shorter-join}

@@ -16,7 +16,7 @@ use Rattle.words.specs.Head.{sameSymbol}
 use Rattle.words.specs.Meeting.{outcomeOf}
 use Rattle.words.proofs.HeadLaws.{same-symbol-exactly}
 use Rattle.graphs.specs.Graph.{Head as GraphHead, variable, symbol, Node}
-use Rattle.graphs.specs.Log.{key, keyOf}
+use Rattle.graphs.specs.Partition.{key, keyOf}
 use Rattle.graphs.proofs.Classes.{never}
 use Rattle.table.specs.Table.{TableSymbols, graphOf, degree, choose, functionKind, kindAt, contentAt, symbolWith, headOf, nodeKind, childrenAt}
 use Rattle.table.specs.Heads.{top, labelAt, constantKind}

@@ -6,8 +6,7 @@ use Prim.Native.Nat.{ℕ, _≤_, _<_}
 use native.Mathlib.Decide.{ℕ-discrete}
 use native.Mathlib.Omega.{arith}
 use Rattle.words.specs.declared.numbers.Address.{Address}
-use Rattle.graphs.specs.Partition.{Pair, Same, swapped}
-use Rattle.graphs.specs.Log.{key}
+use Rattle.graphs.specs.Partition.{Pair, Same, swapped, key}
 use Rattle.table.specs.Table.{graphOf}
 use Rattle.classes.specs.Steps.Meeting.{PassedCheck, State, Within, Agrees, Complete, Moved, Meets, Roots, Ordered}
 use Rattle.classes.specs.declared.meet.Turn.{Turn}

@@ -13,8 +13,7 @@ use lib.Dec.{eqb}
 use lib.ListN.{length, getD, set, length-set}
 use lib.Seq.{getD-set-same, getD-set-other, drop-set-lt}
 use Rattle.graphs.specs.Graph.{variable, symbol, Node, variable-node, symbol-node}
-use Rattle.graphs.specs.Partition.{Pair, Same, swapped, entry, isNode, classes}
-use Rattle.graphs.specs.Log.{key}
+use Rattle.graphs.specs.Partition.{Pair, Same, swapped, entry, isNode, classes, key}
 use Rattle.graphs.proofs.Certificates.{key-symbol, key-variable}
 use Rattle.graphs.proofs.Classes.{never, nothing-no-node}
 use Rattle.table.specs.Table.{TableSymbols, graphOf, degree, childOf}

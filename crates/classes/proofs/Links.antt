@@ -8,8 +8,7 @@ use native.Mathlib.Decide.{ℕ-discrete}
 use native.Mathlib.Omega.{arith}
 use lib.ListN.{length, set, length-set}
 use lib.Seq.{getD-set-same, getD-set-other, drop-set-lt}
-use Rattle.graphs.specs.Partition.{entry}
-use Rattle.graphs.specs.Log.{key}
+use Rattle.graphs.specs.Partition.{entry, key}
 use Rattle.table.specs.Table.{graphOf}
 use Rattle.classes.specs.Steps.Forest.{Up, here, up, Forest, Shorter}
 

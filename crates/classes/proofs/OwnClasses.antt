@@ -10,8 +10,7 @@ use Rattle.words.specs.declared.kind.Kind.{Kind}
 use Rattle.words.specs.declared.kind.Kind.the-variants.{Variable, Constant, Function, Pointer, Count, NoWord}
 use Rattle.rows.proofs.Laws.{Built, built-more}
 use Rattle.graphs.specs.Graph.{Symbols, Graph, WellFormed}
-use Rattle.graphs.specs.Partition.{Sides, Same, ClassTable, isNode}
-use Rattle.graphs.specs.Log.{apart, key}
+use Rattle.graphs.specs.Partition.{Sides, Same, ClassTable, isNode, apart, key}
 use Rattle.graphs.proofs.Classes.{same-labels}
 use Rattle.graphs.proofs.Replay.{apart-length, apart-entry, apart-sound, Sound}
 use Rattle.graphs.proofs.Certificates.{first-names}

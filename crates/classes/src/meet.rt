@@ -3,7 +3,7 @@ ghost use mathlib.Core.Path.{_≡_};
 ghost use Prim.Native.Nat.{_+_, _*_, _<_, _≤_};
 ghost use lib.ListN.{length, set};
 ghost use Rattle.graphs.specs.Graph.{Node};
-ghost use Rattle.graphs.specs.Log.{key as keyIn};
+ghost use Rattle.graphs.specs.Partition.{key as keyIn};
 ghost use Rattle.table.specs.Table.{graphOf, Laid};
 ghost use Rattle.classes.specs.Steps.Meeting.{PassedCheck, State, Meets, Ordered, Roots};
 use crate::forest;

@@ -3,8 +3,7 @@ ghost use mathlib.Core.Path.{_≡_};
 ghost use mathlib.Core.List.{_++_};
 ghost use Prim.Native.Nat.{_≤_};
 ghost use lib.ListN.{length, drop};
-ghost use Rattle.graphs.specs.Log.{apart as apartIn};
-ghost use Rattle.graphs.specs.Partition.{joins};
+ghost use Rattle.graphs.specs.Partition.{joins, apart as apartIn};
 ghost use Rattle.table.specs.Table.{graphOf};
 ghost use Rattle.classes.specs.Counting.{NamesNodes};
 

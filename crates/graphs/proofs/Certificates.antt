@@ -12,8 +12,8 @@ use native.Mathlib.Omega.{arith}
 use borrow.Author.Tests.{ltb-true, eqb-true}
 use lib.ListN.{length, getD}
 use Rattle.graphs.specs.Graph.{Symbols, Head, nothing, variable, symbol, Graph, Node, variable-node, symbol-node, Child, Steps, one, more, WellFormed}
-use Rattle.graphs.specs.Partition.{Pair, _∈_, Sides, Same, itself, Clash, ClassStep, Cycle, Named, by-non-variable, by-variable, entry, ClassTable}
-use Rattle.graphs.specs.Log.{children, together, keyOf, key, holdsPairs, sameNames, agreesWith, agrees, closed, ranksFall, ranksFallAt, ranked, differFrom, differ, clashes, Down, isAmong, isBelow, leads, cycles, leadsDown, loops}
+use Rattle.graphs.specs.Partition.{Pair, _∈_, Sides, Same, itself, Clash, ClassStep, Cycle, Named, by-non-variable, by-variable, entry, ClassTable, keyOf, key}
+use Rattle.graphs.specs.Log.{children, together, holdsPairs, sameNames, agreesWith, agrees, closed, ranksFall, ranksFallAt, ranked, differFrom, differ, clashes, Down, isAmong, isBelow, leads, cycles, leadsDown, loops}
 use Rattle.graphs.proofs.Classes.{never, same-labels, same-nodes}
 use Rattle.graphs.proofs.Replay.{both-true, either-true, decide-true, decide-not, all-below, Sound, one-entry-same, together-same}
 

@@ -16,8 +16,8 @@ use borrow.Author.Tests.{lt-ltb, le-leb, eqb-false, eq-eqb, ne-eqb, not-true}
 use lib.Dec.{eqb, leb}
 use lib.ListN.{length, getD}
 use Rattle.graphs.specs.Graph.{Symbols, Head, nothing, variable, symbol, Graph, Node, variable-node, symbol-node, WellFormed}
-use Rattle.graphs.specs.Partition.{Pair, Sides, Clash, entry, ClassTable, isNode}
-use Rattle.graphs.specs.Log.{_and_, _or_, given, children, Join, eitherWay, counts, childrenBeside, childrenOf, together, separate, grounded, isTrue, key, renamed, merged, joined, apart, ends, ifTrue, replayFrom, replay, allBelow, holdsPairs, sameNames, agreesWith, agrees, closed, differFrom, differ, clashes}
+use Rattle.graphs.specs.Partition.{Pair, Sides, Clash, entry, ClassTable, isNode, key, apart}
+use Rattle.graphs.specs.Log.{_and_, _or_, given, children, Join, eitherWay, counts, childrenBeside, childrenOf, together, separate, grounded, isTrue, renamed, merged, joined, ends, ifTrue, replayFrom, replay, allBelow, holdsPairs, sameNames, agreesWith, agrees, closed, differFrom, differ, clashes}
 use Rattle.graphs.proofs.Finite.{without, without-shorter, still-in, upto, upto-length, upto-has}
 use Rattle.graphs.proofs.Classes.{never, nothing-no-node, child-at, same-nodes}
 use Rattle.graphs.proofs.Replay.{both-true, is-node, pair-at, Sound, apart-own, not-zero, renamed-entry, replay-sound}

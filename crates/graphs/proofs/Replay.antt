@@ -13,8 +13,8 @@ use borrow.Author.Tests.{ltb-true, leb-true, leb-false, eqb-true, eqb-false, ne-
 use lib.Dec.{eqb, leb, ltb}
 use lib.ListN.{length, getD, length-map, List·getD-map, List·getD-eq-default}
 use Rattle.graphs.specs.Graph.{Symbols, Head, nothing, variable, symbol, Graph, Node, variable-node, symbol-node, one, WellFormed}
-use Rattle.graphs.specs.Partition.{Pair, _∈_, Sides, Same, itself, swapped, through, paired, placed, entry, isNode}
-use Rattle.graphs.specs.Log.{_and_, _or_, Ground, given, children, Join, eitherWay, counts, childrenBeside, childrenOf, together, grounded, isTrue, key, renamed, merged, joined, apartFrom, apart, ends, ifTrue, replayFrom, replay, allBelow}
+use Rattle.graphs.specs.Partition.{Pair, _∈_, Sides, Same, itself, swapped, through, paired, placed, entry, isNode, key, apartFrom, apart}
+use Rattle.graphs.specs.Log.{_and_, _or_, Ground, given, children, Join, eitherWay, counts, childrenBeside, childrenOf, together, grounded, isTrue, renamed, merged, joined, ends, ifTrue, replayFrom, replay, allBelow}
 use Rattle.graphs.proofs.Classes.{never, same-nodes}
 
 -- ---- tests and what they show

@@ -5,11 +5,11 @@
 -- What a replay that ends well proves is said in proofs/Theorems.antt. Assumes nothing.
 use mathlib.Core.Bool.{Bool, true, false, not, cond, decide}
 use mathlib.Core.List.{List, [], _∷_, map}
-use Prim.Native.Nat.{ℕ, zero, suc, pred, _+_}
+use Prim.Native.Nat.{ℕ, zero, suc, pred}
 use lib.Dec.{eqb, leb, ltb}
 use lib.ListN.{length, getD}
 use Rattle.graphs.specs.Graph.{Symbols, Head, nothing, variable, symbol, Graph}
-use Rattle.graphs.specs.Partition.{Pair, isNode, entry}
+use Rattle.graphs.specs.Partition.{Pair, isNode, entry, key, apart}
 
 infixr 30 _and_
 infixr 25 _or_
@@ -71,15 +71,6 @@ isTrue G pairs row j = separate G row (j .left) (j .right) and grounded G pairs 
 
 -- ---- the replay
 
-unfoldable pub keyOf : {S : Symbols} → ℕ → ℕ → Head S → ℕ
-keyOf n x nothing = n + x
-keyOf n x variable = n + x
-keyOf n x (symbol s xs) = x
-
--- The order in which nodes name a class, as a number: non-variables before variables, and then by address.
-unfoldable pub key : {S : Symbols} → Graph S → ℕ → ℕ
-key G x = keyOf (G .size) x (G .head x)
-
 unfoldable pub renamed : ℕ → ℕ → List ℕ → List ℕ
 renamed old new row = map (λ e. cond (eqb e old) new e) row
 
@@ -89,14 +80,6 @@ merged G row l m = cond (leb (key G l) (key G m)) (renamed m l row) (renamed l m
 
 abbrev pub joined : {S : Symbols} → Graph S → List ℕ → Join → List ℕ
 joined G row j = merged G row (entry row (j .left)) (entry row (j .right))
-
-unfoldable pub apartFrom : {S : Symbols} → Graph S → ℕ → ℕ → List ℕ
-apartFrom G x zero = []
-apartFrom G x (suc k) = cond (isNode (G .head x)) x 0 ∷ apartFrom G (suc x) k
-
--- each node its own class
-unfoldable pub apart : {S : Symbols} → Graph S → List ℕ
-apart G = apartFrom G 0 (G .size)
 
 -- the number of the first entry that is false, from 1; or the row of names that the joins end in
 pub data Replayed : Type 0 where

@@ -1,8 +1,8 @@
 -- The partition that a list of pairs makes: classes, clash, cycle, names, the class table and the joins.
 -- The sentences quoted are document 01's. Assumes nothing.
 use mathlib.Core.Path.{_≡_}
-use mathlib.Core.Bool.{Bool, true, false, _&&_}
-use mathlib.Core.List.{List, List·Memᴰ}
+use mathlib.Core.Bool.{Bool, true, false, cond, _&&_}
+use mathlib.Core.List.{List, [], _∷_, List·Memᴰ}
 use Prim.Native.Nat.{ℕ, zero, suc, _+_, _-_, _≤_, _<_}
 use lib.Dec.{eqb}
 use lib.ListN.{length, getD}
@@ -76,6 +76,15 @@ pub data Named {S : Symbols} (G : Graph S) (pairs : List Pair) (x name : ℕ) : 
       → ((y : ℕ) (t : S .Symbol) (ys : List ℕ) → Same G pairs x y → G .head y ≡ symbol t ys → name ≤ y) → Named G pairs x name
   by-variable : Same G pairs x name → VariablesOnly G pairs x → ((y : ℕ) → Same G pairs x y → name ≤ y) → Named G pairs x name
 
+unfoldable pub keyOf : {S : Symbols} → ℕ → ℕ → Head S → ℕ
+keyOf n x nothing = n + x
+keyOf n x variable = n + x
+keyOf n x (symbol s xs) = x
+
+-- The order in which nodes name a class, as a number: non-variables before variables, and then by address.
+unfoldable pub key : {S : Symbols} → Graph S → ℕ → ℕ
+key G x = keyOf (G .size) x (G .head x)
+
 -- the entry of a class table at an address
 abbrev pub entry : List ℕ → ℕ → ℕ
 entry table x = getD table x 0
@@ -90,6 +99,14 @@ unfoldable pub isNode : {S : Symbols} → Head S → Bool
 isNode nothing = false
 isNode variable = true
 isNode (symbol s children) = true
+
+unfoldable pub apartFrom : {S : Symbols} → Graph S → ℕ → ℕ → List ℕ
+apartFrom G x zero = []
+apartFrom G x (suc k) = cond (isNode (G .head x)) x 0 ∷ apartFrom G (suc x) k
+
+-- each node its own class
+unfoldable pub apart : {S : Symbols} → Graph S → List ℕ
+apart G = apartFrom G 0 (G .size)
 
 unfoldable pub bit : Bool → ℕ
 bit true = 1

@@ -11,8 +11,7 @@ use lib.Seq.{take-take, length-take-le}
 use Rattle.words.specs.declared.numbers.PairNumber.{PairNumber}
 use Rattle.rows.proofs.Laws.{behind-stays, behind-cleared}
 use Rattle.graphs.specs.Graph.{Symbols, Graph}
-use Rattle.graphs.specs.Partition.{Pair, Sides, Clash, ClassTable}
-use Rattle.graphs.specs.Log.{apart}
+use Rattle.graphs.specs.Partition.{Pair, Sides, Clash, ClassTable, apart}
 use Rattle.graphs.proofs.Theorems.{no-pairs-no-clash}
 use Rattle.graphs.proofs.Classes.{never, clash-grows, first-pairs-grow}
 use Rattle.table.specs.Table.{graphOf}

@@ -11,8 +11,8 @@ use native.Mathlib.Decide.{ℕ-discrete}
 use lib.ListN.{length, take, drop}
 use lib.Seq.{take-at}
 use Rattle.words.specs.Word.{kindOf}
-use Rattle.graphs.specs.Partition.{isNode, bit, count, nodes, classes, joins}
-use Rattle.graphs.specs.Log.{_and_, _or_, Join, given, children, childrenBeside, childrenOf, grounded, isTrue, keyOf, key, renamed, merged, apartFrom, apart, ifTrue, replayFrom, replay, allBelow, holdsPairs, sameNames, agreesWith, agrees, closed, ranksFall, ranksFallAt, ranked, differFrom, differ, clashes, Down, isAmong, isBelow, leads, cycles, leadsDown, loops}
+use Rattle.graphs.specs.Partition.{isNode, bit, count, nodes, classes, joins, keyOf, key, apartFrom, apart}
+use Rattle.graphs.specs.Log.{_and_, _or_, Join, given, children, childrenBeside, childrenOf, grounded, isTrue, renamed, merged, ifTrue, replayFrom, replay, allBelow, holdsPairs, sameNames, agreesWith, agrees, closed, ranksFall, ranksFallAt, ranked, differFrom, differ, clashes, Down, isAmong, isBelow, leads, cycles, leadsDown, loops}
 use Rattle.graphs.proofs.Theorems.{class-table-only}
 use Rattle.table.specs.Table.{graphOf, choose, symbol-decide, named, namedFrom, headOf}
 use Rattle.table.specs.Layout.{canStand, after, atEnd, breakFrom}

@@ -6,8 +6,7 @@ use mathlib.Core.Logic.{_⊎_}
 use mathlib.Core.List.{List}
 use Prim.Native.Nat.{ℕ, _≤_, _<_}
 use lib.ListN.{length, drop}
-use Rattle.graphs.specs.Partition.{entry}
-use Rattle.graphs.specs.Log.{key}
+use Rattle.graphs.specs.Partition.{entry, key}
 use Rattle.table.specs.Table.{graphOf}
 
 -- y is reached from x along links: none, one or more

@@ -6,8 +6,7 @@ use mathlib.Core.List.{List, [], _∷_, _++_}
 use Prim.Native.Nat.{ℕ, zero, suc, _+_, _*_, _≤_, _<_}
 use lib.ListN.{length, getD, drop}
 use Rattle.graphs.specs.Graph.{nothing, symbol, Node, WellFormed}
-use Rattle.graphs.specs.Partition.{Pair, _∈_, Same, Clash, entry, classes}
-use Rattle.graphs.specs.Log.{key}
+use Rattle.graphs.specs.Partition.{Pair, _∈_, Same, Clash, entry, classes, key}
 use Rattle.table.specs.Table.{TableSymbols, graphOf, degree, childOf}
 use Rattle.table.specs.Shaped.{Shaped}
 use Rattle.classes.specs.Steps.Forest.{Forest}

@@ -3,7 +3,7 @@
 use native.Mathlib.Omega.{arith}
 use borrow.Author.Needs.{needs}
 use lib.ListN.{length-set}
-use Rattle.graphs.specs.Log.{key}
+use Rattle.graphs.specs.Partition.{key}
 use Rattle.table.specs.Table.{graphOf}
 use Rattle.classes.proofs.Climbs.{Climb, climb-none, climb-higher, climb-more, climb-less, climb-end}
 use Rattle.classes.proofs.forest.root.Statement.{statement}

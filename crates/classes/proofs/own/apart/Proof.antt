@@ -7,7 +7,7 @@ use native.Mathlib.Omega.{arith}
 use borrow.Author.Needs.{needs}
 use lib.ListN.{length}
 use Rattle.rows.proofs.Laws.{Built, built-none, built-all}
-use Rattle.graphs.specs.Log.{apart}
+use Rattle.graphs.specs.Partition.{apart}
 use Rattle.table.specs.Table.{graphOf}
 use Rattle.classes.proofs.OwnClasses.{apart-long, apart-more}
 use Rattle.classes.proofs.own.apart.Statement.{statement}
