@@ -13,9 +13,10 @@ use lib.Seq.{getD-take}
 use Rattle.graphs.specs.Graph.{Symbols, Graph, Node, WellFormed}
 use Rattle.graphs.specs.Partition.{Pair, Sides, ClassTable, entry, isNode, bit, count, joins, nodes, classes}
 use Rattle.graphs.proofs.Classes.{node-or-nothing, name-node}
+use Rattle.graphs.proofs.Replay.{node-is}
 use Rattle.table.specs.Table.{graphOf}
 use Rattle.classes.specs.Counting.{NamesNodes}
-use Rattle.classes.proofs.Counts.{node-is, ownNode}
+use Rattle.classes.proofs.Counts.{ownNode}
 
 -- ---- what the row tells
 

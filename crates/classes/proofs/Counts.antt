@@ -7,8 +7,9 @@ use native.Mathlib.Decide.{ℕ-discrete}
 use native.Mathlib.Omega.{arith}
 use lib.Dec.{eqb}
 use borrow.Author.Tests.{eq-eqb, ne-eqb}
-use Rattle.graphs.specs.Graph.{Symbols, Graph, Node, variable-node, symbol-node}
+use Rattle.graphs.specs.Graph.{Symbols, Graph, Node}
 use Rattle.graphs.specs.Partition.{bit, count, isNode, entry}
+use Rattle.graphs.proofs.Replay.{node-is}
 
 -- tests that agree below n pass as often
 pub count-same : (f g : ℕ → Bool) (n : ℕ) → ((x : ℕ) → x < n → f x ≡ g x) → count f n ≡ count g n
@@ -40,11 +41,6 @@ count-one f g (suc n) m h p q other = go (λ below. count-one f g n m below p q 
 -- the test by which `classes` counts
 abbrev pub ownNode : {S : Symbols} → Graph S → List ℕ → ℕ → Bool
 ownNode G row x = isNode (G .head x) && eqb (entry row x) x
-
-pub node-is : {S : Symbols} {G : Graph S} {x : ℕ} → Node G x → isNode (G .head x) ≡ true
-unfolding isNode
-node-is (variable-node e) = ap isNode e
-node-is (symbol-node e) = ap isNode e
 
 pub own-counts : {S : Symbols} {G : Graph S} (row : List ℕ) {x : ℕ} → Node G x → entry row x ≡ x → ownNode G row x ≡ true
 own-counts {S} {G} row {x} n e = ap₂ _&&_ (node-is n) (eq-eqb (entry row x) x e)

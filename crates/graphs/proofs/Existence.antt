@@ -15,12 +15,12 @@ use native.Mathlib.Omega.{arith}
 use borrow.Author.Tests.{lt-ltb, le-leb, eqb-false, eq-eqb, ne-eqb, not-true}
 use lib.Dec.{eqb, leb}
 use lib.ListN.{length, getD}
-use Rattle.graphs.specs.Graph.{Symbols, Head, nothing, variable, symbol, Graph, Node, variable-node, symbol-node, WellFormed}
-use Rattle.graphs.specs.Partition.{Pair, Sides, Clash, entry, ClassTable, isNode, key, apart}
+use Rattle.graphs.specs.Graph.{Symbols, Head, nothing, variable, symbol, Graph, Node, symbol-node, WellFormed}
+use Rattle.graphs.specs.Partition.{Pair, Sides, Clash, entry, ClassTable, key, apart}
 use Rattle.graphs.specs.Log.{_and_, _or_, given, children, Join, eitherWay, counts, childrenBeside, childrenOf, together, separate, grounded, isTrue, renamed, merged, joined, ends, ifTrue, replayFrom, replay, allBelow, holdsPairs, sameNames, agreesWith, agrees, closed, differFrom, differ, clashes}
 use Rattle.graphs.proofs.Finite.{without, without-shorter, still-in, upto, upto-length, upto-has}
 use Rattle.graphs.proofs.Classes.{never, nothing-no-node, child-at, same-nodes}
-use Rattle.graphs.proofs.Replay.{both-true, is-node, pair-at, Sound, apart-own, not-zero, renamed-entry, replay-sound}
+use Rattle.graphs.proofs.Replay.{both-true, is-node, node-is, pair-at, Sound, apart-own, not-zero, renamed-entry, replay-sound}
 use Rattle.graphs.proofs.Certificates.{key-symbol, key-variable, closed-class-table, closed-no-clash, clashes-clash}
 
 -- ---- tests
@@ -55,11 +55,6 @@ decide-no : {P : Type 0} (d : Dec P) → (P → ⊥) → not (decide d) ≡ true
 unfolding decide
 decide-no (yes q) p = absurd (p q)
 decide-no (no q) p = refl
-
-node-is : {S : Symbols} {G : Graph S} {x : ℕ} → Node G x → isNode (G .head x) ≡ true
-unfolding isNode
-node-is (variable-node e) = ap isNode e
-node-is (symbol-node e) = ap isNode e
 
 all-or-one : (test : ℕ → Bool) (n : ℕ) → (allBelow test n ≡ true) ⊎ ((x : ℕ) × (x < n) × (test x ≡ false))
 unfolding allBelow

@@ -63,6 +63,11 @@ is-node {S} {G} x e = go (G .head x) refl e
     go variable q t = variable-node q
     go (symbol s xs) q t = symbol-node q
 
+pub node-is : {S : Symbols} {G : Graph S} {x : ℕ} → Node G x → isNode (G .head x) ≡ true
+unfolding isNode
+node-is (variable-node e) = ap isNode e
+node-is (symbol-node e) = ap isNode e
+
 either-way : (a b x y : ℕ) → eitherWay a b x y ≡ true → ((a ≡ x) × (b ≡ y)) ⊎ ((a ≡ y) × (b ≡ x))
 either-way a b x y e =
     ⊎-elim
