@@ -14,7 +14,7 @@ use Rattle.graphs.specs.Graph.{Child, Steps}
 use Rattle.graphs.specs.Partition.{entry}
 use Rattle.graphs.proofs.Finite.{steps-map}
 use Rattle.table.specs.Table.{nodeKind, graphOf, degree, childOf}
-use Rattle.table.proofs.Children.{NamedChild, named-child, child-degree, degree-child}
+use Rattle.table.proofs.Children.{NamedChild, named-child, degree-child}
 use Rattle.table.specs.Shaped.{Shaped}
 use Rattle.table.proofs.Shape.{inside-kind, shaped-laid, shaped-degree, shaped-child}
 use Rattle.cycles.specs.Digraph.{Edge, digraphOf, Returns, Searchable, Searched}
@@ -74,7 +74,7 @@ module _ (t row rest : List ℕ) (own : row ≡ counting 0 (length t) ++ rest) w
     child-edge : (x y : ℕ) → Child (graphOf t) x y → Edge (digraphOf t row) x y
     child-edge x y d =
         let c : NamedChild t x y = named-child t x y d in
-        (c .place, child-degree t c, own-child x (c .place) (child-degree t c) ∙ c .is)
+        (c .place, c .within, own-child x (c .place) (c .within) ∙ c .is)
 
     pub loops-found : (found : Bool) → Returns found (digraphOf t row) → Loops found t
     loops-found true (x, s) = (x, steps-map edge-child s)

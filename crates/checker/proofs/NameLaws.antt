@@ -1,5 +1,4 @@
 -- The chains in the work row, and what the scan for repeated names knows at each address. In order:
---   is-variable, is-other   the test of a kind
 --   repeats-inside   a repeated name stands in the table
 --   put-front      two stores put a variable in front of its chain
 --   stays-same, stays-on     what of the work row stays
@@ -10,7 +9,7 @@
 --   answer-here, answer-nowhere    the scan's two answers
 -- Assumes nothing.
 use mathlib.Core.Path.{_≡_, refl, sym, ap, subst, _∙_}
-use mathlib.Core.Bool.{Bool, true, false, true≢false}
+use mathlib.Core.Bool.{Bool, true, false}
 use mathlib.Core.List.{List, _++_}
 use Prim.Native.Nat.{ℕ, _+_, _*_, _≤_, _<_}
 use native.Mathlib.Omega.{arith}
@@ -19,24 +18,12 @@ use lib.Seq.{getD-set-same, getD-set-other, drop-set-lt}
 use borrow.Author.Count.{below-more}
 use Rattle.rows.proofs.Laws.{behind-cleared, cleared-zero}
 use Rattle.words.specs.Word.{kindOf}
-use Rattle.words.specs.declared.kind.Kind.{Kind}
-use Rattle.words.specs.declared.kind.Kind.the-variants.{Variable, Constant, Function, Pointer, Count, NoWord}
+use Rattle.words.specs.declared.kind.Kind.the-variants.{Variable}
 use Rattle.table.specs.Table.{wordAt, kindAt, contentAt, nodeKind}
 use Rattle.table.proofs.Shape.{inside-kind}
 use Rattle.table.specs.Faults.{Repeats}
-use Rattle.checker.specs.Names.{variableKind, Either, startOf, headIn, nextIn, RestStays, Chained, ChainedOn, Judged, FirstRepeated}
+use Rattle.checker.specs.Names.{Either, startOf, headIn, nextIn, RestStays, Chained, ChainedOn, Judged, FirstRepeated}
 use Rattle.checker.proofs.ChainLaws.{chains-none, chains-pass, chains-more, InFront}
-
-pub is-variable : (k : Kind) → variableKind k ≡ true → k ≡ Variable
-is-variable Variable e = refl
-is-variable Constant e = absurd (true≢false (sym e))
-is-variable Function e = absurd (true≢false (sym e))
-is-variable Pointer e = absurd (true≢false (sym e))
-is-variable Count e = absurd (true≢false (sym e))
-is-variable NoWord e = absurd (true≢false (sym e))
-
-pub is-other : (k : Kind) → variableKind k ≡ false → k ≡ Variable → ⊥
-is-other k e v = true≢false (sym (ap variableKind v) ∙ e)
 
 pub repeats-inside : {t : List ℕ} {a : ℕ} → Repeats t a → a < length t
 repeats-inside {t} {a} r = inside-kind t a nodeKind refl (ap nodeKind (r .later))
@@ -95,22 +82,11 @@ stays-on p q = record { rest = q .rest ∙ p .rest; same-length = q .same-length
 pub chained-pass : {t work : List ℕ} {a : ℕ} → Chained t work a → (kindAt t a ≡ Variable → ⊥) → Chained t work (a + 1)
 chained-pass c other = record { no-variable = c .no-variable; small = c .small; room = c .room; chains = chains-pass (c .chains) other }
 
-pub variable-read : {kind : Kind} {b : Bool} (t : List ℕ) (a : ℕ) → kind ≡ kindAt t a → b ≡ variableKind kind → b ≡ true → kindAt t a ≡ Variable
-variable-read t a k e yes-it-is = is-variable (kindAt t a) (ap variableKind (sym k) ∙ sym e ∙ yes-it-is)
-
-pub judged-other :
-    {t work : List ℕ} {a : ℕ} {kind : Kind} {b : Bool} →
-    Chained t work a →
-    kind ≡ kindAt t a →
-    b ≡ variableKind kind →
-    b ≡ false →
-    Judged t work work a false
-judged-other {t} {work} {a} c k e no-it-is-not =
-    let other : (kindAt t a ≡ Variable → ⊥) = is-other (kindAt t a) (ap variableKind (sym k) ∙ sym e ∙ no-it-is-not) in
-    record {
-      verdict = λ r. other (r .later);
-      goes-on = record { chained = chained-pass c other; stays = stays-same t work };
-    }
+pub judged-other : {t work : List ℕ} {a : ℕ} → Chained t work a → (kindAt t a ≡ Variable → ⊥) → Judged t work work a false
+judged-other {t} {work} c other = record {
+  verdict = λ r. other (r .later);
+  goes-on = record { chained = chained-pass c other; stays = stays-same t work };
+}
 
 module _ {b : Bool} (t work : List ℕ) (a : ℕ) (told : Either b (Repeats t a) (Repeats t a → ⊥)) where
   pub judged-repeated : b ≡ true → Judged t work work a true

@@ -1,5 +1,6 @@
 -- The walk along the items of a sound table, as far as the table goes; WalkLaws has the work row too. In order:
 --   good-first     word 0 is the number 0
+--   no-count, some-count, sound-count   the test of a count
 --   walked-none, walked-on   no step, and one walk after another
 --   variable-good, constant-good, pointer-good   a word whose kind was read
 --   variable-item, constant-item, function-word, count-word, argument-word   one word further
@@ -7,58 +8,61 @@
 --   walked-shaped, walked-names   the whole table
 -- Assumes nothing.
 use mathlib.Core.Path.{_≡_, refl, sym, ap, subst, _∙_}
-use mathlib.Core.Bool.{Bool, true, false, _&&_, not}
+use mathlib.Core.Bool.{Bool, true, false, cond, _&&_, not}
 use mathlib.Core.List.{List}
 use Prim.Native.Nat.{ℕ, zero, suc, _+_, _-_, _≤_, _<_}
 use native.Mathlib.Omega.{arith}
 use borrow.Author.Tests.{eq-eqb, leb-true, leb-false, not-true}
 use lib.Dec.{leb}
 use lib.ListN.{length}
-use Rattle.words.specs.Word.{kindOf, contentOf}
+use Rattle.words.specs.Word.{sameKind, nodeKinds, argumentKinds, isOneOf, kindOf, contentOf}
 use Rattle.words.specs.declared.kind.Kind.{Kind}
-use Rattle.words.specs.declared.kind.Kind.the-variants.{Variable, Constant, Function, Pointer, Count, NoWord}
+use Rattle.words.specs.declared.kind.Kind.the-variants.{Variable, Constant, Function, Pointer, Count}
+use Rattle.words.proofs.Tests.{and-exactly}
+use Rattle.words.proofs.WordLaws.{same-kind-exactly}
+use Rattle.words.proofs.KindLaws.{other-kind, not-both}
 use Rattle.graphs.proofs.Classes.{never}
 use Rattle.table.specs.Table.{wordAt, kindAt, contentAt}
-use Rattle.table.specs.Layout.{Wanted, item, count, arguments, more, itemKind, countKind, argumentKind, canStand, afterItem, after, atEnd}
+use Rattle.table.specs.Layout.{Wanted, item, count, arguments, more, canStand, after, atEnd}
 use Rattle.table.specs.Faults.{badKind, badLater, badTarget, Repeats}
 use Rattle.table.specs.Shaped.{Shaped}
-use Rattle.checker.specs.Names.{variableKind}
 use Rattle.checker.specs.Sound.{soundCount, Good, Walked}
 use Rattle.shape.proofs.LayoutLaws.{break-stands, break-ends}
-use Rattle.checker.proofs.NameLaws.{is-other, repeats-inside}
+use Rattle.checker.proofs.NameLaws.{repeats-inside}
 
 -- ---- one address
 
 pub good-first : (t : List ℕ) → wordAt t 0 ≡ 0 → Good t 0
-unfolding badLater badTarget kindOf
+unfolding badLater kindOf
 good-first t e = record {
   word = ap not (eq-eqb (wordAt t 0) 0 e);
-  pointer = ap (λ (w : ℕ). badTarget (kindOf w) (contentAt t 0) t) e;
+  pointer = ap (λ (w : ℕ). sameKind (kindOf w) Pointer && badTarget t (contentAt t 0)) e;
   name = λ r. omega (arith, r .before);
 }
 
 -- a later word is good if its kind, its content and its name are
-good-later : (t : List ℕ) (a : ℕ) (k : Kind) → 0 < a → kindAt t a ≡ k → badKind k (contentAt t a) ≡ false → badTarget k (contentAt t a) t ≡ false → (Repeats t a → ⊥) → Good t a
+good-later : (t : List ℕ) (a : ℕ) (k : Kind) → 0 < a → kindAt t a ≡ k → badKind k (contentAt t a) ≡ false → (sameKind k Pointer && badTarget t (contentAt t a)) ≡ false → (Repeats t a → ⊥) → Good t a
 unfolding badLater
 good-later t zero k h e w p n = absurd (omega arith)
 good-later t (suc a) k h e w p n = record {
   word = ap (λ (q : Kind). badKind q (contentAt t (suc a))) e ∙ w;
-  pointer = ap (λ (q : Kind). badTarget q (contentAt t (suc a)) t) e ∙ p;
+  pointer = ap (λ (q : Kind). sameKind q Pointer && badTarget t (contentAt t (suc a))) e ∙ p;
   name = n;
 }
 
--- what the test of a count read
-module _ (w : ℕ) {kind : Kind} {is-count : Bool} (k : kind ≡ kindOf w) (e : is-count ≡ countKind kind) where
-  tested : {b : Bool} → is-count ≡ b → countKind (kindOf w) ≡ b
-  tested f = ap countKind (sym k) ∙ sym e ∙ f
-
-  pub no-count : is-count ≡ false → false ≡ soundCount w
+-- the test of a count, and what it shows
+module _ (w : ℕ) where
+  pub no-count : (kindOf w ≡ Count → ⊥) → false ≡ soundCount w
   unfolding soundCount
-  no-count f = sym (ap (λ (b : Bool). b && not (badKind (kindOf w) (contentOf w))) (tested f))
+  no-count other = sym (ap (λ (b : Bool). b && not (badKind Count (contentOf w))) (other-kind (kindOf w) Count other))
 
-  pub some-count : {content : ℕ} {bad : Bool} → is-count ≡ true → content ≡ contentOf w → bad ≡ badKind kind content → not bad ≡ soundCount w
+  pub some-count : {content : ℕ} {bad : Bool} → kindOf w ≡ Count → content ≡ contentOf w → bad ≡ badKind Count content → not bad ≡ soundCount w
   unfolding soundCount
-  some-count f n b = ap not (b ∙ (λ i. badKind (k i) (n i))) ∙ sym (ap (λ (q : Bool). q && not (badKind (kindOf w) (contentOf w))) (tested f))
+  some-count e n b = ap not (b ∙ ap (badKind Count) n) ∙ sym (ap (λ (q : Bool). q && not (badKind Count (contentOf w))) (same-kind-exactly (kindOf w) Count .1 e))
+
+  pub sound-count : soundCount w ≡ true → (kindOf w ≡ Count) × (badKind Count (contentOf w) ≡ false)
+  unfolding soundCount
+  sound-count = and-exactly (sameKind (kindOf w) Count) _ (same-kind-exactly (kindOf w) Count) (not-true _, ap not) .0
 
 -- ---- walks
 
@@ -88,27 +92,27 @@ one-word t wanted a h e g = record {
 
 module _ (t : List ℕ) (a : ℕ) (later : 0 < a) where
   -- a word that is no variable has no name
-  other-good : (k : Kind) → kindAt t a ≡ k → variableKind k ≡ false → badKind k (contentAt t a) ≡ false → badTarget k (contentAt t a) t ≡ false → Good t a
-  other-good k e v w p = good-later t a k later e w p (λ r. is-other (kindAt t a) (ap variableKind e ∙ v) (r .later))
+  other-good : (k : Kind) → kindAt t a ≡ k → sameKind k Variable ≡ false → badKind k (contentAt t a) ≡ false → (sameKind k Pointer && badTarget t (contentAt t a)) ≡ false → Good t a
+  other-good k e v w p = good-later t a k later e w p (λ r. not-both e v (r .later))
 
   pub variable-good : kindAt t a ≡ Variable → (Repeats t a → ⊥) → Good t a
-  unfolding badKind badTarget
+  unfolding badKind
   variable-good e new = good-later t a Variable later e refl refl new
 
   pub constant-good : kindAt t a ≡ Constant → Good t a
-  unfolding badKind badTarget
+  unfolding badKind
   constant-good e = other-good Constant e refl refl refl
 
-  pub pointer-good : kindAt t a ≡ Pointer → badTarget Pointer (contentAt t a) t ≡ false → Good t a
+  pub pointer-good : kindAt t a ≡ Pointer → badTarget t (contentAt t a) ≡ false → Good t a
   unfolding badKind
   pointer-good e p = other-good Pointer e refl refl p
 
   module _ (inside : a < length t) where
-    item-word : (k : Kind) → kindAt t a ≡ k → itemKind k ≡ true → Good t a → Walked t item a (afterItem k) (a + 1)
+    item-word : (k : Kind) → kindAt t a ≡ k → isOneOf nodeKinds k ≡ true → Good t a → Walked t item a (cond (sameKind k Function) count item) (a + 1)
     unfolding canStand after
     item-word k e i g =
-        subst (λ (q : Kind). Walked t item a (afterItem q) (a + 1)) e
-        (one-word t item a inside (ap itemKind e ∙ i) g)
+        subst (λ (q : Kind). Walked t item a (cond (sameKind q Function) count item) (a + 1)) e
+        (one-word t item a inside (ap (isOneOf nodeKinds) e ∙ i) g)
 
     pub variable-item : kindAt t a ≡ Variable → (Repeats t a → ⊥) → Walked t item a item (a + 1)
     variable-item e new = item-word Variable e refl (variable-good e new)
@@ -117,29 +121,23 @@ module _ (t : List ℕ) (a : ℕ) (later : 0 < a) where
     constant-item e = item-word Constant e refl (constant-good e)
 
     pub function-word : kindAt t a ≡ Function → Walked t item a count (a + 1)
-    unfolding badKind badTarget
+    unfolding badKind
     function-word e = item-word Function e refl (other-good Function e refl refl refl)
 
     pub count-word : soundCount (wordAt t a) ≡ true → Walked t count a (more (contentAt t a)) (a + 1)
-    unfolding soundCount canStand after badTarget
-    count-word s = go (kindAt t a) refl s
-      where
-        go : (k : Kind) → kindAt t a ≡ k → (countKind k && not (badKind k (contentAt t a))) ≡ true → Walked t count a (more (contentAt t a)) (a + 1)
-        go Variable e f = never (cc)
-        go Constant e f = never (cc)
-        go Function e f = never (cc)
-        go Pointer e f = never (cc)
-        go Count e f = one-word t count a inside (ap countKind e) (other-good Count e refl (not-true _ f) refl)
-        go NoWord e f = never (cc)
+    unfolding canStand after
+    count-word s =
+        let k = sound-count (wordAt t a) s in
+        one-word t count a inside (same-kind-exactly (kindAt t a) Count .1 (k .0)) (other-good Count (k .0) refl (k .1) refl)
 
-    pub argument-word : (j : ℕ) → argumentKind (kindAt t a) ≡ true → Good t a → Walked t (arguments (suc j)) a (more j) (a + 1)
+    pub argument-word : (j : ℕ) → isOneOf argumentKinds (kindAt t a) ≡ true → Good t a → Walked t (arguments (suc j)) a (more j) (a + 1)
     unfolding canStand after
     argument-word j e g = one-word t (arguments (suc j)) a inside e g
 
 -- ---- the arguments, the block and the table
 
 -- so many arguments are to come up to `to`, and one less after this one
-pub argument-more : {t : List ℕ} {from to a : ℕ} → Walked t (more (to - from)) from (more (to - a)) a → 0 < from → a < to → to ≤ length t → argumentKind (kindAt t a) ≡ true → Good t a
+pub argument-more : {t : List ℕ} {from to a : ℕ} → Walked t (more (to - from)) from (more (to - a)) a → 0 < from → a < to → to ≤ length t → isOneOf argumentKinds (kindAt t a) ≡ true → Good t a
     → Walked t (more (to - from)) from (more (to - (a + 1))) (a + 1)
 argument-more {t} {from} {to} {a} w later h inside e g =
     walked-on w

@@ -5,21 +5,22 @@
 --   ItemsYet       the items passed are sound; items-none, items-more, sound-table, unsound-table
 -- Assumes nothing.
 use mathlib.Core.Path.{_≡_, refl, sym, ap, subst, _∙_}
-use mathlib.Core.Bool.{Bool, true, false, _&&_, not, true≢false}
+use mathlib.Core.Bool.{Bool, true, false, not, true≢false}
 use mathlib.Core.List.{List}
 use Prim.Native.Nat.{ℕ, _+_, _-_, _≤_, _<_}
 use native.Mathlib.Omega.{arith}
 use borrow.Author.Tests.{not-true}
 use lib.ListN.{length}
+use Rattle.words.specs.Word.{argumentKinds, isOneOf}
 use Rattle.words.specs.declared.kind.Kind.the-variants.{Variable, Constant, Pointer}
-use Rattle.graphs.proofs.Classes.{never}
+use Rattle.words.proofs.KindLaws.{not-both}
 use Rattle.table.specs.Table.{wordAt, kindAt, contentAt}
-use Rattle.table.specs.Layout.{Wanted, item, count, more, countKind, argumentKind}
+use Rattle.table.specs.Layout.{Wanted, item, count, more}
 use Rattle.table.specs.Faults.{badTarget, Repeats}
-use Rattle.checker.specs.Names.{variableKind, RestStays, Chained, Judged}
+use Rattle.checker.specs.Names.{RestStays, Chained, Judged}
 use Rattle.checker.specs.Sound.{soundCount, Walked, AsArgument, AsArguments, NextItem, SoundTable}
-use Rattle.checker.proofs.NameLaws.{is-other, stays-same, stays-on, chained-pass, judged-stays}
-use Rattle.checker.proofs.SoundLaws.{variable-good, constant-good, pointer-good, variable-item, constant-item, walked-none, walked-on, argument-more, arguments-end, walked-block, walked-shaped, walked-names}
+use Rattle.checker.proofs.NameLaws.{stays-same, stays-on, chained-pass, judged-stays}
+use Rattle.checker.proofs.SoundLaws.{sound-count, variable-good, constant-good, pointer-good, variable-item, constant-item, walked-none, walked-on, argument-more, arguments-end, walked-block, walked-shaped, walked-names}
 
 -- a name that was judged to be new
 new-name : {t entry exit : List ℕ} {a : ℕ} {repeated : Bool} → Judged t entry exit a repeated → repeated ≡ false → (Repeats t a → ⊥) × Chained t exit (a + 1)
@@ -31,20 +32,20 @@ module _ (t : List ℕ) (a : ℕ) (later : 0 < a) where
   pub variable-argument : {entry exit : List ℕ} (repeated : Bool) → kindAt t a ≡ Variable → Judged t entry exit a repeated → AsArgument t entry exit a (not repeated)
   variable-argument repeated e j = record {
     stays = judged-stays repeated j;
-    goes-on = λ s. let n = new-name j (not-true repeated s) in (ap argumentKind e, variable-good t a later e (n .0), n .1);
+    goes-on = λ s. let n = new-name j (not-true repeated s) in (ap (isOneOf argumentKinds) e, variable-good t a later e (n .0), n .1);
   }
 
   module _ {work : List ℕ} (c : Chained t work a) where
     pub constant-argument : kindAt t a ≡ Constant → AsArgument t work work a true
     constant-argument e = record {
       stays = stays-same t work;
-      goes-on = λ s. (ap argumentKind e, constant-good t a later e, chained-pass c (is-other (kindAt t a) (ap variableKind e)));
+      goes-on = λ s. (ap (isOneOf argumentKinds) e, constant-good t a later e, chained-pass c (not-both e refl));
     }
 
-    pub pointer-argument : {bad : Bool} → kindAt t a ≡ Pointer → bad ≡ badTarget Pointer (contentAt t a) t → AsArgument t work work a (not bad)
+    pub pointer-argument : {bad : Bool} → kindAt t a ≡ Pointer → bad ≡ badTarget t (contentAt t a) → AsArgument t work work a (not bad)
     pointer-argument {bad} e b = record {
       stays = stays-same t work;
-      goes-on = λ s. (ap argumentKind e, pointer-good t a later e (sym b ∙ not-true bad s), chained-pass c (is-other (kindAt t a) (ap variableKind e)));
+      goes-on = λ s. (ap (isOneOf argumentKinds) e, pointer-good t a later e (sym b ∙ not-true bad s), chained-pass c (not-both e refl));
     }
 
 pub no-argument : (t work : List ℕ) (a : ℕ) → AsArgument t work work a false
@@ -100,7 +101,7 @@ module _ (t : List ℕ) (a : ℕ) (later : 0 < a) (inside : a < length t) where
   pub next-constant : {work : List ℕ} → Chained t work a → kindAt t a ≡ Constant → NextItem t work work item a (a + 1)
   next-constant {work} c e = record {
     stays = stays-same t work;
-    goes-on = λ goes. (omega arith, constant-item t a later inside e, chained-pass c (is-other (kindAt t a) (ap variableKind e)));
+    goes-on = λ goes. (omega arith, constant-item t a later inside e, chained-pass c (not-both e refl));
   }
 
   pub next-arguments : {entry exit : List ℕ} {end : ℕ} {sound : Bool} → soundCount (wordAt t a) ≡ true → end ≡ a + 1 + contentAt t a
@@ -112,12 +113,7 @@ module _ (t : List ℕ) (a : ℕ) (later : 0 < a) (inside : a < length t) where
 
 -- a count is no variable
 pub count-chained : {t work : List ℕ} {a : ℕ} → Chained t work a → soundCount (wordAt t a) ≡ true → Chained t work (a + 1)
-unfolding soundCount
-count-chained {t} {work} {a} c s = chained-pass c (λ e. neither (countKind (kindAt t a)) _ (ap countKind e) s)
-  where
-    neither : (is-count allowed : Bool) → is-count ≡ false → (is-count && allowed) ≡ true → ⊥
-    neither true allowed e f = never (cc)
-    neither false allowed e f = never (cc)
+count-chained {t} {work} {a} c s = chained-pass c (not-both (sound-count (wordAt t a) s .0) refl)
 
 pub next-block : {t entry exit : List ℕ} {a next : ℕ} → Walked t item a count (a + 1) → NextItem t entry exit count (a + 1) next → NextItem t entry exit item a next
 next-block function block = record {

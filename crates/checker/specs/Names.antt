@@ -5,8 +5,7 @@ use mathlib.Core.Bool.{Bool, true, false}
 use mathlib.Core.List.{List}
 use Prim.Native.Nat.{ℕ, _+_, _*_, _/_, _%_, _≤_, _<_}
 use lib.ListN.{length, getD, drop}
-use Rattle.words.specs.declared.kind.Kind.{Kind}
-use Rattle.words.specs.declared.kind.Kind.the-variants.{Variable, Constant, Function, Pointer, Count, NoWord}
+use Rattle.words.specs.declared.kind.Kind.the-variants.{Variable, NoWord}
 use Rattle.table.specs.Table.{kindAt, contentAt}
 use Rattle.table.specs.Faults.{Repeats}
 
@@ -21,14 +20,6 @@ pub record FirstRepeated (t entry exit : List ℕ) (found : ℕ) : Type 0 where
   pub none-before : (j : ℕ) → j < found → Repeats t j → ⊥
   pub repeats : found < length t → Repeats t found
   pub stays : RestStays t entry exit
-
-abbrev pub variableKind : Kind → Bool
-variableKind Variable = true
-variableKind Constant = false
-variableKind Function = false
-variableKind Pointer = false
-variableKind Count = false
-variableKind NoWord = false
 
 -- the first where the answer is yes, and the second where it is no
 abbrev pub Either : Bool → Type 0 → Type 0 → Type 0

@@ -4,16 +4,17 @@ use mathlib.Core.Bool.{Bool, true, false, _&&_, not}
 use mathlib.Core.List.{List}
 use Prim.Native.Nat.{ℕ, _+_, _-_, _≤_, _<_}
 use lib.ListN.{length, drop}
-use Rattle.words.specs.Word.{kindOf, contentOf}
+use Rattle.words.specs.Word.{sameKind, argumentKinds, isOneOf, kindOf, contentOf}
+use Rattle.words.specs.declared.kind.Kind.the-variants.{Count}
 use Rattle.table.specs.Table.{kindAt}
-use Rattle.table.specs.Layout.{Wanted, item, more, countKind, argumentKind, breakFrom}
+use Rattle.table.specs.Layout.{Wanted, item, more, breakFrom}
 use Rattle.table.specs.Faults.{badKind, badWord, badPointer, Repeats}
 use Rattle.table.specs.Shaped.{Shaped}
 use Rattle.checker.specs.Names.{RestStays, Chained}
 
 -- a count word whose content is allowed
 unfoldable pub soundCount : ℕ → Bool
-soundCount w = countKind (kindOf w) && not (badKind (kindOf w) (contentOf w))
+soundCount w = sameKind (kindOf w) Count && not (badKind Count (contentOf w))
 
 -- none of a bad word (row 3), a bad pointer (row 5) and a repeated name (row 6)
 pub record Good (t : List ℕ) (a : ℕ) : Type 0 where
@@ -34,7 +35,7 @@ pub record Walked (t : List ℕ) (here : Wanted) (a : ℕ) (there : Wanted) (b :
 -- The word at a was looked at as an argument.
 pub record AsArgument (t entry exit : List ℕ) (a : ℕ) (sound : Bool) : Type 0 where
   pub stays : RestStays t entry exit
-  pub goes-on : sound ≡ true → (argumentKind (kindAt t a) ≡ true) × Good t a × Chained t exit (a + 1)
+  pub goes-on : sound ≡ true → (isOneOf argumentKinds (kindAt t a) ≡ true) × Good t a × Chained t exit (a + 1)
 
 -- The words from a to below b were looked at as arguments.
 pub record AsArguments (t entry exit : List ℕ) (a b : ℕ) (sound : Bool) : Type 0 where

@@ -4,8 +4,8 @@
 // entries begin the chains, each with its newest address, and entry 3n + a has the address that comes
 // after a. Address 0, which is no variable, ends a chain. Links fall, so a walk ends.
 //
-// The chain of a label is told with no division: times an odd number, which is one to one on 16 bits,
-// and then by its high bits, so that labels that agree in their low bits are spread too. A chain has
+// A label's chain is found by its high bits after it was multiplied by an odd number, which is one to
+// one on 16 bits, so that labels that agree in their low bits are spread too. A chain has
 // at most 65,536 / 3n + 1 labels before one repeats, and no table takes more than about 11,000
 // comparisons of labels.
 ghost use mathlib.Core.Path.{_≡_};
@@ -14,7 +14,7 @@ ghost use lib.ListN.{length, getD};
 ghost use Rattle.words.specs.declared.kind.Kind.{Kind};
 ghost use Rattle.table.specs.Faults.{Repeats};
 ghost use Rattle.table.specs.Table.{wordAt, kindAt, contentAt};
-ghost use Rattle.checker.specs.Names.{variableKind, Either, startOf, Chained, ChainedOn, Judged, FirstRepeated};
+ghost use Rattle.checker.specs.Names.{Either, startOf, Chained, ChainedOn, Judged, FirstRepeated};
 use words::kind::Kind;
 use words::numbers::Label;
 use words::word;
@@ -27,19 +27,6 @@ const LABELS: usize = 65536;
 
 // Odd, so that no two labels are spread to one number.
 const SPREAD: usize = 40503;
-
-fn is_variable(kind: Kind) -> bool
-    ensures { λ r. ⌜ r ≡ variableKind kind ⌝ }
-{
-    match kind {
-        Kind::Variable => true,
-        Kind::Constant => false,
-        Kind::Function => false,
-        Kind::Pointer => false,
-        Kind::Count => false,
-        Kind::NoWord => false,
-    }
-}
 
 fn label_at(table: &[u32], at: usize) -> Label
     requires { ⌜ at < length (now table) ⌝ }
@@ -110,10 +97,11 @@ fn repeats_name(table: &[u32], work: &mut [u16], at: usize) -> bool
     requires { ⌜ Chained (now table) (now work) at × (at < length (now table)) ⌝ }
     ensures { λ r. ⌜ Judged (now (table .entry)) (now (work .entry)) (now (work .exit)) at r ⌝ }
 {
-    if !is_variable(word::kind(table[at])) {
-        return false;
+    if let Kind::Variable = word::kind(table[at]) {
+        repeats_variable(table, work, at)
+    } else {
+        false
     }
-    repeats_variable(table, work, at)
 }
 
 // Every chain becomes empty. A link is written before it is read, so only the beginnings are cleared.

@@ -7,7 +7,6 @@ ghost use Rattle.table.specs.Layout.{item, count};
 ghost use Rattle.checker.specs.Names.{Chained};
 ghost use Rattle.checker.specs.Sound.{soundCount, AsArgument, AsArguments, NextItem, SoundTable};
 use crate::name_fault;
-use shape::layout_fault;
 use shape::pointer_fault;
 use shape::word_fault;
 use words::kind::Kind;
@@ -19,11 +18,11 @@ const NOWHERE: usize = 0;
 fn is_sound_count(word: u32) -> bool
     ensures { λ r. ⌜ r ≡ soundCount word ⌝ }
 {
-    let kind = word::kind(word);
-    if !layout_fault::is_count(kind) {
-        return false;
+    if let Kind::Count = word::kind(word) {
+        !word_fault::is_bad_kind(Kind::Count, word::content(word))
+    } else {
+        false
     }
-    !word_fault::is_bad_kind(kind, word::content(word))
 }
 
 // Whether the word at an address is a variable whose label is new, a constant, or a pointer to an
@@ -36,10 +35,8 @@ fn is_sound_argument(table: &[u32], work: &mut [u16], at: usize) -> bool
     match word::kind(word) {
         Kind::Variable => !name_fault::repeats_variable(table, work, at),
         Kind::Constant => true,
-        Kind::Function => false,
         Kind::Pointer => !pointer_fault::is_bad_target(table, word::address(word)),
-        Kind::Count => false,
-        Kind::NoWord => false,
+        _ => false,
     }
 }
 
@@ -95,9 +92,7 @@ fn after_item(table: &[u32], work: &mut [u16], at: usize) -> usize
         }
         Kind::Constant => at + 1,
         Kind::Function => after_block(table, work, at + 1),
-        Kind::Pointer => NOWHERE,
-        Kind::Count => NOWHERE,
-        Kind::NoWord => NOWHERE,
+        _ => NOWHERE,
     }
 }
 

@@ -15,10 +15,11 @@ use Rattle.graphs.specs.Graph.{Symbols, Graph, nothing, variable, symbol, Node,
 use Rattle.graphs.specs.Partition.{Pair, Sides, Same, itself, paired, Clash, Named, by-non-variable, by-variable, ClassTable, entry, bit, count, classes, key}
 use Rattle.graphs.proofs.Classes.{never, node-or-nothing, same-labels, same-nodes, together-one-entry, entry-together}
 use Rattle.graphs.proofs.Certificates.{key-symbol, key-variable, key-nothing, first-names}
-use Rattle.table.specs.Table.{TableSymbols, graphOf, childOf}
+use Rattle.table.specs.Table.{TableSymbols, graphOf, degree, childOf}
+use Rattle.table.proofs.Children.{symbol-length, symbol-child}
 use Rattle.classes.specs.Steps.Forest.{Flattened}
 use Rattle.classes.specs.Steps.Meeting.{PassedCheck, OneSymbol, State, Within, Agrees, Complete, Moved}
-use Rattle.classes.proofs.Symbols.{degree-of-head, child-of-head, head-of-degree, head-0, one-symbol-children}
+use Rattle.classes.proofs.Symbols.{head-of-degree, head-0, one-symbol-children}
 use Rattle.classes.proofs.Shortened.{config, shorter-moved}
 
 -- ---- the front of a row
@@ -50,7 +51,8 @@ module _ {t : List ℕ} {pairs : List Pair} (checked : PassedCheck t) (sides : S
     child-entry : (x : ℕ) {s : TableSymbols .Symbol} {xs : List ℕ} → graphOf t .head x ≡ symbol s xs → (i : ℕ) → i < length xs
         → entry row (getD xs i 0) ≡ entry row (childOf t (entry row x) i)
     child-entry x e i h =
-        ap (entry row) (child-of-head t x e i h) ∙ complete .children (entry row) own-labels x i (omega (arith, degree-of-head t x e))
+        let below : i < degree t x = omega (arith, symbol-length t x e) in
+        ap (entry row) (symbol-child t x e i below) ∙ complete .children (entry row) own-labels x i below
 
     one-entry : {x y : ℕ} → Same (graphOf t) pairs x y → entry row x ≡ entry row y
     one-entry =

@@ -8,6 +8,7 @@ use mathlib.Core.List.{List, []}
 use Prim.Native.Nat.{ℕ, suc, _+_, _<_}
 use native.Mathlib.Omega.{arith}
 use lib.ListN.{length}
+use Rattle.words.specs.Word.{sameKind, nodeKinds}
 use Rattle.words.specs.declared.kind.Kind.{Kind}
 use Rattle.words.specs.declared.head.Head.{Head}
 use Rattle.words.specs.declared.head.Symbol.{Symbol}
@@ -15,16 +16,16 @@ use Rattle.words.specs.declared.meeting.Outcome.{Outcome}
 use Rattle.words.specs.Head.{sameSymbol}
 use Rattle.words.specs.Meeting.{outcomeOf}
 use Rattle.words.proofs.HeadLaws.{same-symbol-exactly}
+use Rattle.words.proofs.KindLaws.{one-of, every-kind}
 use Rattle.graphs.specs.Graph.{Head as GraphHead, variable, symbol, Node}
 use Rattle.graphs.specs.Partition.{key, keyOf}
 use Rattle.graphs.proofs.Classes.{never}
-use Rattle.table.specs.Table.{TableSymbols, graphOf, degree, choose, functionKind, kindAt, contentAt, symbolWith, headOf, nodeKind, childrenAt}
-use Rattle.table.specs.Heads.{top, labelAt, constantKind}
-use Rattle.table.specs.Layout.{countKind}
+use Rattle.table.specs.Table.{TableSymbols, graphOf, degree, choose, kindAt, contentAt, symbolWith, headOf, childrenAt}
+use Rattle.table.specs.Heads.{top, labelAt}
 use Rattle.table.specs.Faults.{badKind, badLater, badWord}
 use Rattle.table.specs.Shaped.{Shaped}
 use Rattle.table.proofs.Children.{kind-head, node-kind}
-use Rattle.table.proofs.Shape.{inside-kind, block-count}
+use Rattle.table.proofs.Shape.{block-count, shaped-laid}
 use Rattle.classes.specs.Steps.Meeting.{OneSymbol}
 
 -- ---- what stands at a node
@@ -38,36 +39,31 @@ pub data Seen (t : List ℕ) (x : ℕ) : Type 0 where
 -- A function counts an argument, so no constant has its symbol.
 function-counts : {t : List ℕ} → Shaped t → (x : ℕ) → kindAt t x ≡ Kind.Function → contentAt t (x + 1) ≡ 0 → ⊥
 unfolding badKind badLater
-function-counts {t} shaped x f z = shaped .words (suc x) inside (bad (kindAt t (suc x)) refl counted)
+function-counts {t} shaped x f z = shaped .words (suc x) inside bad
   where
     at : x + 1 ≡ suc x
     at = omega arith
 
-    counted : countKind (kindAt t (suc x)) ≡ true
-    counted = subst (λ (y : ℕ). countKind (kindAt t y) ≡ true) at (block-count shaped x (ap functionKind f))
+    counted : kindAt t (suc x) ≡ Kind.Count
+    counted = subst (λ (y : ℕ). kindAt t y ≡ Kind.Count) at (block-count shaped x f)
 
     inside : suc x < length t
-    inside = inside-kind t (suc x) countKind refl counted
+    inside = omega (arith, shaped-laid shaped x f)
 
-    bad : (k : Kind) → kindAt t (suc x) ≡ k → countKind k ≡ true → badWord t (suc x) ≡ true
-    bad Kind.Count e c = ap₂ badKind e (subst (λ (y : ℕ). contentAt t y ≡ 0) at z)
-    bad Kind.Variable e c = never (cc)
-    bad Kind.Constant e c = never (cc)
-    bad Kind.Function e c = never (cc)
-    bad Kind.Pointer e c = never (cc)
-    bad Kind.NoWord e c = never (cc)
+    bad : badWord t (suc x) ≡ true
+    bad = ap₂ badKind counted (subst (λ (y : ℕ). contentAt t y ≡ 0) at z)
 
 module _ (t : List ℕ) (x : ℕ) where
   topAs : Kind → Head
-  topAs k = choose (functionKind k) (Head.Function (labelAt t x) (contentAt t (x + 1))) (choose (constantKind k) (Head.Constant (labelAt t x)) (Head.Variable (labelAt t x)))
+  topAs k = choose (sameKind k Kind.Function) (Head.Function (labelAt t x) (contentAt t (x + 1))) (choose (sameKind k Kind.Constant) (Head.Constant (labelAt t x)) (Head.Variable (labelAt t x)))
 
   top-at : {k : Kind} → kindAt t x ≡ k → top t x ≡ topAs k
   unfolding top topAs
   top-at e = ap topAs e
 
-  degree-at : {k : Kind} → kindAt t x ≡ k → degree t x ≡ choose (functionKind k) (contentAt t (x + 1)) 0
+  degree-at : {k : Kind} → kindAt t x ≡ k → degree t x ≡ choose (sameKind k Kind.Function) (contentAt t (x + 1)) 0
   unfolding degree
-  degree-at e = ap (λ (k : Kind). choose (functionKind k) (contentAt t (x + 1)) 0) e
+  degree-at e = ap (λ (k : Kind). choose (sameKind k Kind.Function) (contentAt t (x + 1)) 0) e
 
   -- the place in the naming order, by the head in words
   abbrev keyBy : Head → ℕ
@@ -76,34 +72,23 @@ module _ (t : List ℕ) (x : ℕ) where
   keyBy (Head.Function l n) = x
 
   key-by-top : key (graphOf t) x ≡ keyBy (top t x)
-  unfolding topAs choose headOf key keyOf
-  key-by-top = go (kindAt t x) refl
-    where
-      at : {k : Kind} → kindAt t x ≡ k → keyOf (length t) x (headOf k t x) ≡ keyBy (topAs k) → key (graphOf t) x ≡ keyBy (top t x)
-      at e f = ap (keyOf (length t) x) (kind-head t x e) ∙ f ∙ sym (ap keyBy (top-at e))
-
-      go : (k : Kind) → kindAt t x ≡ k → key (graphOf t) x ≡ keyBy (top t x)
-      go Kind.Variable e = at e refl
-      go Kind.Constant e = at e refl
-      go Kind.Function e = at e refl
-      go Kind.Pointer e = at e refl
-      go Kind.Count e = at e refl
-      go Kind.NoWord e = at e refl
+  unfolding topAs top choose headOf key keyOf
+  key-by-top = every-kind (λ k. keyOf (length t) x (headOf k t x) ≡ keyBy (topAs k)) refl refl refl refl refl refl (kindAt t x)
 
   pub key-at : {h k : Head} → h ≡ top t x → h ≡ k → keyBy k ≡ key (graphOf t) x
   key-at e f = ap keyBy (sym f ∙ e) ∙ sym key-by-top
 
 pub see : {t : List ℕ} → Shaped t → (x : ℕ) → Node (graphOf t) x → Seen t x
 unfolding topAs choose headOf
-see {t} shaped x n = go (kindAt t x) refl (node-kind t x n)
-  where
-    go : (k : Kind) → kindAt t x ≡ k → nodeKind (kindAt t x) ≡ true → Seen t x
-    go Kind.Variable e h = variable-seen (kind-head t x e) (degree-at t x e) (top-at t x e)
-    go Kind.Constant e h = constant-seen (kind-head t x e) (degree-at t x e) (top-at t x e)
-    go Kind.Function e h = function-seen (kind-head t x e) (function-counts shaped x e) (top-at t x e)
-    go Kind.Pointer e h = never (cc)
-    go Kind.Count e h = never (cc)
-    go Kind.NoWord e h = never (cc)
+see {t} shaped x n =
+    one-of (λ k. kindAt t x ≡ k → Seen t x) nodeKinds (
+      (λ e. variable-seen (kind-head t x e) (degree-at t x e) (top-at t x e)),
+      (
+        (λ e. constant-seen (kind-head t x e) (degree-at t x e) (top-at t x e)),
+        ((λ e. function-seen (kind-head t x e) (function-counts shaped x e) (top-at t x e)), tt),
+      ),
+    )
+    (kindAt t x) (node-kind t x n) refl
 
 -- ---- the outcomes
 

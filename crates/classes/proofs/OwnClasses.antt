@@ -1,34 +1,21 @@
 -- Each node its own class: what the row `apart` has, and that it is the class table of no pairs. Assumes nothing.
-use mathlib.Core.Path.{_≡_, refl, sym, ap, _∙_, subst}
+use mathlib.Core.Path.{_≡_, sym, ap, _∙_, subst}
 use mathlib.Core.Bool.{Bool, cond}
 use mathlib.Core.List.{List, [], _++_, List·Memᴰ·not-nil}
 use Prim.Native.Nat.{ℕ, _+_, _<_}
 use native.Mathlib.Omega.{arith}
 use lib.ListN.{length, getD, set, take}
 use lib.Seq.{take-at}
-use Rattle.words.specs.declared.kind.Kind.{Kind}
-use Rattle.words.specs.declared.kind.Kind.the-variants.{Variable, Constant, Function, Pointer, Count, NoWord}
 use Rattle.rows.proofs.Laws.{Built, built-more}
 use Rattle.graphs.specs.Graph.{Symbols, Graph, WellFormed}
 use Rattle.graphs.specs.Partition.{Sides, Same, ClassTable, isNode, apart, key}
 use Rattle.graphs.proofs.Classes.{same-labels}
 use Rattle.graphs.proofs.Replay.{apart-length, apart-entry, apart-sound, Sound}
 use Rattle.graphs.proofs.Certificates.{first-names}
-use Rattle.table.specs.Table.{kindAt, nodeKind, headOf, graphOf}
+use Rattle.table.specs.Table.{kindAt, nodeKind, graphOf}
+use Rattle.table.proofs.Children.{node-test}
 
 -- ---- the row
-
-node-test : (t : List ℕ) (x : ℕ) → isNode (graphOf t .head x) ≡ nodeKind (kindAt t x)
-unfolding headOf isNode
-node-test t x = go (kindAt t x)
-  where
-    go : (k : Kind) → isNode (headOf k t x) ≡ nodeKind k
-    go Variable = refl
-    go Constant = refl
-    go Function = refl
-    go Pointer = refl
-    go Count = refl
-    go NoWord = refl
 
 pub apart-long : (t : List ℕ) → length (apart (graphOf t)) ≡ length t
 unfolding apart

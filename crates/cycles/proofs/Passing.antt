@@ -10,7 +10,9 @@ use native.Mathlib.Decide.{ℕ-discrete, decLt}
 use native.Mathlib.Omega.{arith}
 use lib.Dec.{eqb}
 use borrow.Author.Tests.{not-true, eq-eqb, ne-eqb}
-use Rattle.table.specs.Table.{choose, kindAt, contentAt, functionKind, degree}
+use Rattle.words.specs.Word.{sameKind}
+use Rattle.words.specs.declared.kind.Kind.the-variants.{Function}
+use Rattle.table.specs.Table.{choose, kindAt, contentAt, degree}
 use Rattle.cycles.specs.Digraph.{Digraph, digraphOf}
 use Rattle.cycles.specs.Steps.Marks.{SearchableRows, mark, finishedMark, Safe, Search, Open, Sure, Over, Passed}
 use Rattle.cycles.proofs.Moves.{finished-safe}
@@ -28,7 +30,7 @@ open-read count {m} {r} read = go (ℕ-discrete r finishedMark)
     go (no e) = subst (λ (b : Bool). Open count m (not b)) (sym (ne-eqb r finishedMark e)) (λ f. e (read ∙ f))
 
 -- what is no function has no edges
-pub no-function-no-edges : (t : List ℕ) (x : ℕ) {function : Bool} → function ≡ functionKind (kindAt t x) → not function ≡ true → degree t x ≡ 0
+pub no-function-no-edges : (t : List ℕ) (x : ℕ) {function : Bool} → function ≡ sameKind (kindAt t x) Function → not function ≡ true → degree t x ≡ 0
 unfolding degree choose
 no-function-no-edges t x {function} read none = ap (λ (b : Bool). choose b (contentAt t (x + 1)) 0) (sym read ∙ not-true function none)
 

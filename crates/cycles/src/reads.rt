@@ -2,8 +2,10 @@
 ghost use mathlib.Core.Path.{_≡_};
 ghost use Prim.Native.Nat.{_<_, _≤_};
 ghost use lib.ListN.{length, getD, set};
+ghost use Rattle.words.specs.Word.{sameKind};
+ghost use Rattle.words.specs.declared.kind.Kind.{Kind};
 ghost use Rattle.graphs.specs.Partition.{entry};
-ghost use Rattle.table.specs.Table.{kindAt, functionKind, degree, childOf, Laid};
+ghost use Rattle.table.specs.Table.{kindAt, degree, childOf, Laid};
 use table::node;
 use words::numbers::Address;
 
@@ -26,7 +28,7 @@ pub fn put(row: &mut [u16], i: usize, v: usize)
 // Whether x is a function: no edge leads from anything else.
 pub fn has_edges(table: &[u32], x: usize) -> bool
     requires { ⌜ (length (now table) ≤ 4096) × (x < length (now table)) ⌝ }
-    ensures { λ r. ⌜ r ≡ functionKind (kindAt (now (table .entry)) x) ⌝ }
+    ensures { λ r. ⌜ r ≡ sameKind (kindAt (now (table .entry)) x) Kind.Function ⌝ }
 {
     node::is_function(table, Address(x as u16))
 }

@@ -17,7 +17,7 @@ use Rattle.graphs.proofs.Classes.{child-at, same-nodes, together-one-entry, ent
 use Rattle.graphs.proofs.Unifiers.{name-symbol}
 use Rattle.table.specs.Table.{graphOf, degree, childOf}
 use Rattle.table.specs.Shaped.{Shaped}
-use Rattle.table.proofs.Children.{kind-node, NamedChild, named-child, child-degree, degree-child}
+use Rattle.table.proofs.Children.{kind-node, NamedChild, named-child, degree-child}
 use Rattle.table.proofs.Shape.{shaped-laid, shaped-degree, shaped-child}
 use Rattle.cycles.specs.Digraph.{Edge, digraphOf, Returns, Searchable}
 use Rattle.matcher.specs.Stages.{Cycles}
@@ -73,7 +73,7 @@ module _ {t : List ℕ} (class : List ℕ) {pairs : List Pair} (shaped : Shaped 
   child-edge : {x y : ℕ} → Child (graphOf t) x y → Edge (digraphOf t class) x (entry class y)
   child-edge {x} {y} d =
       let c : NamedChild t x y = named-child t x y d in
-      (c .place, child-degree t c, ap (entry class) (c .is))
+      (c .place, c .within, ap (entry class) (c .is))
 
   module _ (no-clash : Clash (graphOf t) pairs → ⊥) where
     -- A step may go down from any member; the class's name has a child at the same place, in the same class.

@@ -2,8 +2,9 @@
 // variable, a constant, or a block."
 ghost use mathlib.Core.Path.{_≡_};
 ghost use lib.ListN.{drop};
-ghost use Rattle.table.specs.Layout.{item, itemKind, countKind, argumentKind, canStand, afterItem, less, more as moreOf, after as afterWord, atEnd, breakFrom};
+ghost use Rattle.table.specs.Layout.{item, canStand, less, more as moreOf, after as afterWord, atEnd, breakFrom};
 ghost use Rattle.shape.specs.Layout.{wantedOf, breakOf};
+use words::kind;
 use words::kind::Kind;
 use words::word;
 
@@ -21,53 +22,14 @@ pub enum RowOfItems {
     BreaksAt(usize),
 }
 
-fn is_item(kind: Kind) -> bool
-    ensures { λ r. ⌜ r ≡ itemKind kind ⌝ }
-{
-    match kind {
-        Kind::Variable => true,
-        Kind::Constant => true,
-        Kind::Function => true,
-        Kind::Pointer => false,
-        Kind::Count => false, // it stands after a function
-        Kind::NoWord => false,
-    }
-}
-
-pub fn is_count(kind: Kind) -> bool
-    ensures { λ r. ⌜ r ≡ countKind kind ⌝ }
-{
-    match kind {
-        Kind::Variable => false,
-        Kind::Constant => false,
-        Kind::Function => false,
-        Kind::Pointer => false,
-        Kind::Count => true,
-        Kind::NoWord => false,
-    }
-}
-
-fn is_argument(kind: Kind) -> bool
-    ensures { λ r. ⌜ r ≡ argumentKind kind ⌝ }
-{
-    match kind {
-        Kind::Variable => true,
-        Kind::Constant => true,
-        Kind::Function => false,
-        Kind::Pointer => true,
-        Kind::Count => false,
-        Kind::NoWord => false,
-    }
-}
-
 // Whether a word of this kind can stand where `wanted` may.
 fn can_stand(wanted: Wanted, kind: Kind) -> bool
     ensures { λ r. ⌜ r ≡ canStand (wantedOf wanted) kind ⌝ }
 {
     match wanted {
-        Wanted::Item => is_item(kind),
-        Wanted::Count => is_count(kind),
-        Wanted::Arguments(_) => is_argument(kind),
+        Wanted::Item => kind::is_node(kind),
+        Wanted::Count => { if let Kind::Count = kind { true } else { false } }
+        Wanted::Arguments(_) => kind::is_argument(kind),
     }
 }
 
@@ -88,26 +50,18 @@ fn more(arguments: u16) -> Wanted
     }
 }
 
-// What may stand after a word of this kind that stands as an item.
-fn after_item(kind: Kind) -> Wanted
-    ensures { λ r. ⌜ wantedOf r ≡ afterItem kind ⌝ }
-{
-    match kind {
-        Kind::Variable => Wanted::Item,
-        Kind::Constant => Wanted::Item,
-        Kind::Function => Wanted::Count,
-        Kind::Pointer => Wanted::Item,
-        Kind::Count => Wanted::Item,
-        Kind::NoWord => Wanted::Item,
-    }
-}
-
 // What may stand after a word that stands.
 fn after(wanted: Wanted, word: u32) -> Wanted
     ensures { λ r. ⌜ wantedOf r ≡ afterWord (wantedOf wanted) word ⌝ }
 {
     match wanted {
-        Wanted::Item => after_item(word::kind(word)),
+        Wanted::Item => {
+            if let Kind::Function = word::kind(word) {
+                Wanted::Count
+            } else {
+                Wanted::Item
+            }
+        }
         Wanted::Count => more(word::content(word)),
         Wanted::Arguments(left) => more(one_less(left)),
     }

@@ -2,29 +2,15 @@
 ghost use mathlib.Core.Path.{_≡_};
 ghost use Prim.Native.Nat.{_<_};
 ghost use lib.ListN.{length};
-ghost use Rattle.words.specs.declared.kind.Kind.{Kind};
 ghost use Rattle.table.specs.Answers.{First};
-ghost use Rattle.table.specs.Faults.{pointerOrCount, badTarget, badPointer};
+ghost use Rattle.table.specs.Faults.{badTarget, badPointer};
 use words::kind::Kind;
 use words::numbers::Address;
 use words::word;
 
-fn is_pointer_or_count(kind: Kind) -> bool
-    ensures { λ r. ⌜ r ≡ pointerOrCount kind ⌝ }
-{
-    match kind {
-        Kind::Variable => false,
-        Kind::Constant => false,
-        Kind::Function => false,
-        Kind::Pointer => true,
-        Kind::Count => true,
-        Kind::NoWord => false,
-    }
-}
-
 // Whether a pointer may not name this address.
 pub fn is_bad_target(table: &[u32], target: Address) -> bool
-    ensures { λ r. ⌜ r ≡ badTarget Kind.Pointer (target .0) (now (table .entry)) ⌝ }
+    ensures { λ r. ⌜ r ≡ badTarget (now (table .entry)) (target .0) ⌝ }
 {
     let at = target.0 as usize;
     if at == 0 {
@@ -33,7 +19,10 @@ pub fn is_bad_target(table: &[u32], target: Address) -> bool
     if table.len() <= at {
         return true;
     }
-    is_pointer_or_count(word::kind(table[at]))
+    match word::kind(table[at]) {
+        Kind::Pointer | Kind::Count => true,
+        _ => false,
+    }
 }
 
 // Whether the word at an address is a bad pointer.
@@ -42,13 +31,10 @@ fn is_bad_pointer(table: &[u32], at: usize) -> bool
     ensures { λ r. ⌜ r ≡ badPointer (now (table .entry)) at ⌝ }
 {
     let word = table[at];
-    match word::kind(word) {
-        Kind::Variable => false,
-        Kind::Constant => false,
-        Kind::Function => false,
-        Kind::Pointer => is_bad_target(table, word::address(word)),
-        Kind::Count => false,
-        Kind::NoWord => false,
+    if let Kind::Pointer = word::kind(word) {
+        is_bad_target(table, word::address(word))
+    } else {
+        false
     }
 }
 

@@ -16,12 +16,9 @@ pub fn is_bad_kind(kind: Kind, content: u16) -> bool
     ensures { λ r. ⌜ r ≡ badKind kind content ⌝ }
 {
     match kind {
-        Kind::Variable => false,
-        Kind::Constant => false,
-        Kind::Function => false,
-        Kind::Pointer => false,
-        Kind::Count => content == 0 || MOST_ARGUMENTS < content,
         Kind::NoWord => true,
+        Kind::Count => content == 0 || MOST_ARGUMENTS < content,
+        _ => false,
     }
 }
 

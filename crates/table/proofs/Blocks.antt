@@ -3,18 +3,18 @@
 -- In order: one more word of the row (`break-stands`); `Block`, what stands after a function; `whole-blocks`.
 -- Assumes nothing.
 use mathlib.Core.Path.{_≡_, refl, sym, ap, _∙_, subst}
-use mathlib.Core.Bool.{Bool, true, false}
+use mathlib.Core.Bool.{Bool, true, false, cond, true≢false}
 use mathlib.Core.List.{List, [], _∷_}
 use mathlib.Core.Option.{Option, none, some}
 use Prim.Native.Nat.{ℕ, zero, suc, _+_, _≤_, _<_}
 use native.Mathlib.Omega.{arith}
 use lib.ListN.{length, getD}
-use Rattle.words.specs.Word.{kindOf, contentOf}
+use Rattle.words.specs.Word.{sameKind, argumentKinds, isOneOf, kindOf, contentOf}
 use Rattle.words.specs.declared.kind.Kind.{Kind}
-use Rattle.words.specs.declared.kind.Kind.the-variants.{Variable, Constant, Function, Pointer, Count, NoWord}
+use Rattle.words.specs.declared.kind.Kind.the-variants.{Function, Count}
+use Rattle.words.proofs.WordLaws.{same-kind-exactly}
 use Rattle.graphs.proofs.Classes.{never}
-use Rattle.table.specs.Table.{functionKind}
-use Rattle.table.specs.Layout.{argumentKind, Wanted, item, count, arguments, more, countKind, canStand, afterItem, after, atEnd, breakFrom}
+use Rattle.table.specs.Layout.{Wanted, item, count, arguments, more, canStand, after, atEnd, breakFrom}
 
 -- A word that stands passes the question on.
 pub break-stands : (wanted : Wanted) (a w : ℕ) (rest : List ℕ) → canStand wanted (kindOf w) ≡ true → breakFrom wanted a (w ∷ rest) ≡ breakFrom (after wanted w) (a + 1) rest
@@ -34,16 +34,16 @@ kindIn row i = kindOf (getD row i 0)
 -- From place x on stand k arguments.
 pub record Arguments (row : List ℕ) (x k : ℕ) : Type 0 where
   pub fit : x + k ≤ length row
-  pub stand : (i : ℕ) → i < k → argumentKind (kindIn row (x + i)) ≡ true
+  pub stand : (i : ℕ) → i < k → isOneOf argumentKinds (kindIn row (x + i)) ≡ true
 
 -- At place x stands a count word k, and then k arguments.
 pub record Counted (row : List ℕ) (x : ℕ) : Type 0 where
-  pub counts : countKind (kindIn row x) ≡ true
+  pub counts : kindIn row x ≡ Count
   pub arguments-follow : Arguments row (x + 1) (contentOf (getD row x 0))
 
 -- After each function word stand a count and the arguments.
 abbrev pub Blocks : List ℕ → Type 0
-Blocks row = (x : ℕ) → functionKind (kindIn row x) ≡ true → Counted row (x + 1)
+Blocks row = (x : ℕ) → kindIn row x ≡ Function → Counted row (x + 1)
 
 -- what is known where `wanted` may stand first
 abbrev Begins : Wanted → List ℕ → Type 0
@@ -51,8 +51,8 @@ Begins item row = Unit {0}
 Begins count row = Counted row 0
 Begins (arguments k) row = Arguments row 0 k
 
-move : (test : Kind → Bool) (row : List ℕ) {i j : ℕ} → i ≡ j → test (kindIn row j) ≡ true → test (kindIn row i) ≡ true
-move test row e h = ap (λ (k : ℕ). test (kindIn row k)) e ∙ h
+move : (row : List ℕ) {i j : ℕ} → i ≡ j → isOneOf argumentKinds (kindIn row j) ≡ true → isOneOf argumentKinds (kindIn row i) ≡ true
+move row e h = ap (λ (k : ℕ). isOneOf argumentKinds (kindIn row k)) e ∙ h
 
 -- ---- a word in front
 
@@ -60,7 +60,7 @@ shift-arguments : (w : ℕ) {rest : List ℕ} {x k : ℕ} → Arguments rest x k
 shift-arguments w {rest} {x} {k} a =
     record {
       fit = omega (arith, a .fit);
-      stand = λ i h. move argumentKind (w ∷ rest) (let e : suc x + i ≡ suc (x + i) = omega arith in e) (a .stand i h);
+      stand = λ i h. move (w ∷ rest) (let e : suc x + i ≡ suc (x + i) = omega arith in e) (a .stand i h);
     }
 
 shift-counted : (w : ℕ) {rest : List ℕ} {x : ℕ} → Counted rest x → Counted (w ∷ rest) (suc x)
@@ -72,14 +72,14 @@ shift-counted w {rest} {x} c =
           (shift-arguments w (c .arguments-follow));
     }
 
-first-argument : (w : ℕ) {rest : List ℕ} {k : ℕ} → argumentKind (kindOf w) ≡ true → Arguments rest 0 k → Arguments (w ∷ rest) 0 (suc k)
+first-argument : (w : ℕ) {rest : List ℕ} {k : ℕ} → isOneOf argumentKinds (kindOf w) ≡ true → Arguments rest 0 k → Arguments (w ∷ rest) 0 (suc k)
 first-argument w {rest} {k} e a = record { fit = omega (arith, a .fit); stand = at }
   where
-    at : (i : ℕ) → i < suc k → argumentKind (kindIn (w ∷ rest) (0 + i)) ≡ true
+    at : (i : ℕ) → i < suc k → isOneOf argumentKinds (kindIn (w ∷ rest) (0 + i)) ≡ true
     at zero h = e
     at (suc i) h =
-        move argumentKind (w ∷ rest) (let q : 0 + suc i ≡ suc i = omega arith in q)
-        (move argumentKind rest (let q : i ≡ 0 + i = omega arith in q) (a .stand i (omega arith)))
+        move (w ∷ rest) (let q : 0 + suc i ≡ suc i = omega arith in q)
+        (move rest (let q : i ≡ 0 + i = omega arith in q) (a .stand i (omega arith)))
 
 none-here : (row : List ℕ) (x : ℕ) → x ≤ length row → Arguments row x 0
 none-here row x h = record { fit = omega arith; stand = λ i k. absurd (omega arith) }
@@ -89,7 +89,7 @@ begins-more : (k : ℕ) (row : List ℕ) → Begins (more k) row → Arguments r
 begins-more zero row b = none-here row 0 (omega arith)
 begins-more (suc k) row b = b
 
-begins-counted : (w : ℕ) (rest : List ℕ) → countKind (kindOf w) ≡ true → Begins (more (contentOf w)) rest → Counted (w ∷ rest) 0
+begins-counted : (w : ℕ) (rest : List ℕ) → kindOf w ≡ Count → Begins (more (contentOf w)) rest → Counted (w ∷ rest) 0
 begins-counted w rest e b =
     record {
       counts = e;
@@ -101,34 +101,16 @@ begins-counted w rest e b =
 begins : (wanted : Wanted) (w : ℕ) (rest : List ℕ) → canStand wanted (kindOf w) ≡ true → Begins (after wanted w) rest → Begins wanted (w ∷ rest)
 unfolding canStand after
 begins item w rest e b = tt
-begins count w rest e b = begins-counted w rest e b
+begins count w rest e b = begins-counted w rest (same-kind-exactly (kindOf w) Count .0 e) b
 begins (arguments zero) w rest e b = none-here (w ∷ rest) 0 (omega arith)
 begins (arguments (suc k)) w rest e b = first-argument w e (begins-more k rest b)
 
 -- a function can stand only as an item, and a count is wanted after it
-function-first : (wanted : Wanted) (w : ℕ) (rest : List ℕ) → canStand wanted (kindOf w) ≡ true → functionKind (kindOf w) ≡ true → Begins (after wanted w) rest → Counted rest 0
+function-first : (wanted : Wanted) (w : ℕ) (rest : List ℕ) → canStand wanted (kindOf w) ≡ true → kindOf w ≡ Function → Begins (after wanted w) rest → Counted rest 0
 unfolding canStand after
-function-first wanted w rest e f b = go wanted (kindOf w) refl e f b
-  where
-    go : (v : Wanted) (k : Kind) → kindOf w ≡ k → canStand v k ≡ true → functionKind k ≡ true → Begins (after v w) rest → Counted rest 0
-    go item Function q s t c = subst (λ (k : Kind). Begins (afterItem k) rest) q c
-    go item Variable q s t c = never (cc)
-    go item Constant q s t c = never (cc)
-    go item Pointer q s t c = never (cc)
-    go item Count q s t c = never (cc)
-    go item NoWord q s t c = never (cc)
-    go count Function q s t c = never (cc)
-    go count Variable q s t c = never (cc)
-    go count Constant q s t c = never (cc)
-    go count Pointer q s t c = never (cc)
-    go count Count q s t c = never (cc)
-    go count NoWord q s t c = never (cc)
-    go (arguments j) Function q s t c = never (cc)
-    go (arguments j) Variable q s t c = never (cc)
-    go (arguments j) Constant q s t c = never (cc)
-    go (arguments j) Pointer q s t c = never (cc)
-    go (arguments j) Count q s t c = never (cc)
-    go (arguments j) NoWord q s t c = never (cc)
+function-first item w rest e f b = subst (λ (k : Kind). Begins (cond (sameKind k Function) count item) rest) f b
+function-first count w rest e f b = absurd (true≢false (sym e ∙ ap (canStand count) f))
+function-first (arguments j) w rest e f b = absurd (true≢false (sym e ∙ ap (canStand (arguments j)) f))
 
 -- ---- the row
 
@@ -145,7 +127,7 @@ whole-begins (w ∷ rest) wanted a e = go (canStand wanted (kindOf w)) refl (λ 
         let below : Begins (after wanted w) rest × Blocks rest = ih (sym (break-stands wanted a w rest s) ∙ e) in
         (begins wanted w rest s (below .0), at below)
       where
-        at : Begins (after wanted w) rest × Blocks rest → (x : ℕ) → functionKind (kindIn (w ∷ rest) x) ≡ true → Counted (w ∷ rest) (x + 1)
+        at : Begins (after wanted w) rest × Blocks rest → (x : ℕ) → kindIn (w ∷ rest) x ≡ Function → Counted (w ∷ rest) (x + 1)
         at below zero f =
             subst (Counted (w ∷ rest)) (let q : suc 0 ≡ 0 + 1 = omega arith in q)
             (shift-counted w (function-first wanted w rest s f (below .0)))

@@ -1,7 +1,8 @@
 -- Nodes and children of a table's graph, by the words.
 --
--- In order: heads and nodes by kind (`kind-node`, `node-kind`); children by place (`named-child`, `child-degree`, and back,
--- `degree-child`).
+-- In order: heads and nodes by kind (`kind-head`, `node-test`, `kind-node`, `node-kind`); a symbol's children by the degree
+-- (`symbol-children`, `symbol-count`); what has children is a function (`degree-function`); children by place (`named-child`, and
+-- back, `degree-child`).
 -- Assumes nothing.
 use mathlib.Core.Path.{_≡_, refl, sym, ap, _∙_}
 use mathlib.Core.Bool.{Bool, true, false}
@@ -9,47 +10,33 @@ use mathlib.Core.List.{List, []}
 use Prim.Native.Nat.{ℕ, zero, suc, _+_, _<_}
 use native.Mathlib.Omega.{arith}
 use lib.ListN.{length, getD}
+use Rattle.words.specs.Word.{sameKind}
 use Rattle.words.specs.declared.kind.Kind.{Kind}
-use Rattle.words.specs.declared.kind.Kind.the-variants.{Variable, Constant, Function, Pointer, Count, NoWord}
+use Rattle.words.specs.declared.kind.Kind.the-variants.{Function}
 use Rattle.words.specs.declared.head.Symbol.{Symbol}
-use Rattle.graphs.specs.Graph.{Head, nothing, symbol, Node, variable-node, symbol-node, Child}
-use Rattle.graphs.proofs.Classes.{never}
-use Rattle.table.specs.Table.{kindAt, contentAt, nodeKind, functionKind, choose, symbolWith, TableSymbols, named, namedFrom, childrenAt, headOf, graphOf, degree, childOf}
+use Rattle.words.proofs.WordLaws.{same-kind-exactly}
+use Rattle.words.proofs.KindLaws.{every-kind}
+use Rattle.graphs.specs.Graph.{Head, nothing, variable, symbol, Node, Child}
+use Rattle.graphs.specs.Partition.{isNode}
+use Rattle.graphs.proofs.Replay.{is-node, node-is}
+use Rattle.table.specs.Table.{kindAt, contentAt, nodeKind, choose, symbolWith, TableSymbols, named, namedFrom, childrenAt, headOf, graphOf, degree, childOf}
 
 -- ---- heads and nodes by kind
 
 pub kind-head : (t : List ℕ) (x : ℕ) {k : Kind} → kindAt t x ≡ k → graphOf t .head x ≡ headOf k t x
 kind-head t x e = ap (λ (k : Kind). headOf k t x) e
 
+pub node-test : (t : List ℕ) (x : ℕ) → isNode (graphOf t .head x) ≡ nodeKind (kindAt t x)
+unfolding headOf isNode
+node-test t x = every-kind (λ k. isNode (headOf k t x) ≡ nodeKind k) refl refl refl refl refl refl (kindAt t x)
+
 pub kind-node : (t : List ℕ) (x : ℕ) → nodeKind (kindAt t x) ≡ true → Node (graphOf t) x
-unfolding headOf
-kind-node t x e = go (kindAt t x) refl e
-  where
-    go : (k : Kind) → kindAt t x ≡ k → nodeKind k ≡ true → Node (graphOf t) x
-    go Variable q s = variable-node (kind-head t x q)
-    go Constant q s = symbol-node (kind-head t x q)
-    go Function q s = symbol-node (kind-head t x q)
-    go Pointer q s = never (cc)
-    go Count q s = never (cc)
-    go NoWord q s = never (cc)
+kind-node t x e = is-node x (node-test t x ∙ e)
 
 pub node-kind : (t : List ℕ) (x : ℕ) → Node (graphOf t) x → nodeKind (kindAt t x) ≡ true
-unfolding headOf
-node-kind t x n = go (kindAt t x) refl n
-  where
-    from : {h : Head TableSymbols} → graphOf t .head x ≡ h → h ≡ nothing → Node (graphOf t) x → nodeKind (kindAt t x) ≡ true
-    from e f (variable-node v) = never (cc)
-    from e f (symbol-node v) = never (cc)
+node-kind t x n = sym (node-test t x) ∙ node-is n
 
-    go : (k : Kind) → kindAt t x ≡ k → Node (graphOf t) x → nodeKind (kindAt t x) ≡ true
-    go Variable q m = ap nodeKind q
-    go Constant q m = ap nodeKind q
-    go Function q m = ap nodeKind q
-    go Pointer q m = from (kind-head t x q) refl m
-    go Count q m = from (kind-head t x q) refl m
-    go NoWord q m = from (kind-head t x q) refl m
-
--- ---- children by place
+-- ---- a symbol's children
 
 pub named-length : (t : List ℕ) (a k : ℕ) → length (namedFrom t a k) ≡ k
 unfolding namedFrom
@@ -62,70 +49,68 @@ named-at t a zero i h = absurd (omega arith)
 named-at t a (suc k) zero h = ap (named t) (let e : a ≡ a + 0 = omega arith in e)
 named-at t a (suc k) (suc i) h = named-at t (a + 1) k i (omega arith) ∙ ap (named t) (let e : a + 1 + i ≡ a + suc i = omega arith in e)
 
--- What has children is a function, and each child is what an argument word names.
+abbrev childrenIn : Head TableSymbols → List ℕ
+childrenIn nothing = []
+childrenIn variable = []
+childrenIn (symbol s xs) = xs
+
+abbrev countIn : Head TableSymbols → ℕ
+countIn nothing = 0
+countIn variable = 0
+countIn (symbol s xs) = s .count
+
+module _ (t : List ℕ) (x : ℕ) {s : Symbol} {xs : List ℕ} (e : graphOf t .head x ≡ symbol s xs) where
+  pub symbol-children : xs ≡ namedFrom t (x + 2) (degree t x)
+  unfolding headOf degree choose namedFrom
+  symbol-children =
+      sym (ap childrenIn e)
+      ∙ every-kind (λ k. childrenIn (headOf k t x) ≡ namedFrom t (x + 2) (choose (sameKind k Function) (contentAt t (x + 1)) 0)) refl refl refl refl refl refl (kindAt t x)
+
+  pub symbol-count : s .count ≡ degree t x
+  unfolding headOf degree choose
+  symbol-count =
+      sym (ap countIn e)
+      ∙ every-kind (λ k. countIn (headOf k t x) ≡ choose (sameKind k Function) (contentAt t (x + 1)) 0) refl refl refl refl refl refl (kindAt t x)
+
+  pub symbol-length : length xs ≡ degree t x
+  symbol-length = ap length symbol-children ∙ named-length t (x + 2) (degree t x)
+
+  pub symbol-child : (i : ℕ) → i < degree t x → getD xs i 0 ≡ childOf t x i
+  symbol-child i h = ap (λ (ys : List ℕ). getD ys i 0) symbol-children ∙ named-at t (x + 2) (degree t x) i h
+
+-- ---- children by place
+
+-- what has children is a function
+pub degree-function : (t : List ℕ) (x i : ℕ) → i < degree t x → (kindAt t x ≡ Function) × (i < contentAt t (x + 1))
+unfolding degree choose
+degree-function t x i h = go (sameKind (kindAt t x) Function) refl h
+  where
+    go : (b : Bool) → sameKind (kindAt t x) Function ≡ b → i < choose b (contentAt t (x + 1)) 0 → (kindAt t x ≡ Function) × (i < contentAt t (x + 1))
+    go true q k = (same-kind-exactly (kindAt t x) Function .0 q, k)
+    go false q k = absurd (omega arith)
+
+-- Each child is what an argument word names.
 pub record NamedChild (t : List ℕ) (x y : ℕ) : Type 0 where
-  pub function-there : functionKind (kindAt t x) ≡ true
   pub place : ℕ
-  pub within : place < contentAt t (x + 1)
-  pub is : named t (x + 2 + place) ≡ y
+  pub within : place < degree t x
+  pub is : childOf t x place ≡ y
 
 pub named-child : (t : List ℕ) (x y : ℕ) → Child (graphOf t) x y → NamedChild t x y
-unfolding headOf
-named-child t x y (i, c) = go (kindAt t x) refl
-  where
-    no-symbol : {h : Head TableSymbols} → graphOf t .head x ≡ h → ((s : Symbol) (cs : List ℕ) → h ≡ symbol s cs → ⊥) → NamedChild t x y
-    no-symbol e f = absurd (f (c .named) (c .children) (sym e ∙ c .stands))
-
-    no-children : c .children ≡ [] → NamedChild t x y
-    no-children e = absurd (omega (arith, ap length e, c .within))
-
-    go : (k : Kind) → kindAt t x ≡ k → NamedChild t x y
-    go Variable q = no-symbol (kind-head t x q) (λ s cs e. never (cc))
-    go Constant q =
-        let h : graphOf t .head x ≡ headOf Constant t x = kind-head t x q in
-        let stands : graphOf t .head x ≡ symbol (c .named) (c .children) = c .stands in
-        no-children (cc)
-    go Function q =
-        let h : graphOf t .head x ≡ headOf Function t x = kind-head t x q in
-        let stands : graphOf t .head x ≡ symbol (c .named) (c .children) = c .stands in
-        let same : c .children ≡ childrenAt t x = cc in
-        let within : i < contentAt t (x + 1) = omega (arith, ap length same, named-length t (x + 2) (contentAt t (x + 1)), c .within) in
-        record {
-          function-there = ap functionKind q;
-          place = i;
-          within = within;
-          is = sym (named-at t (x + 2) (contentAt t (x + 1)) i within) ∙ sym (ap (λ (cs : List ℕ). getD cs i 0) same) ∙ c .is;
-        }
-    go Pointer q = no-symbol (kind-head t x q) (λ s cs e. never (cc))
-    go Count q = no-symbol (kind-head t x q) (λ s cs e. never (cc))
-    go NoWord q = no-symbol (kind-head t x q) (λ s cs e. never (cc))
-
-pub child-degree : (t : List ℕ) {x y : ℕ} (c : NamedChild t x y) → c .place < degree t x
-unfolding degree choose
-child-degree t {x} c = omega (arith, ap (λ (b : Bool). choose b (contentAt t (x + 1)) 0) (c .function-there), c .within)
+named-child t x y (i, c) =
+    let within : i < degree t x = omega (arith, symbol-length t x (c .stands), c .within) in
+    record { place = i; within = within; is = sym (symbol-child t x (c .stands) i within) ∙ c .is }
 
 -- the other way: what stands in a function's block is its child
 pub degree-child : (t : List ℕ) (x i : ℕ) → i < degree t x → Child (graphOf t) x (childOf t x i)
-unfolding headOf degree choose
-degree-child t x i h = go (kindAt t x) refl
-  where
-    none-there : {b : Bool} → functionKind (kindAt t x) ≡ b → b ≡ false → Child (graphOf t) x (childOf t x i)
-    none-there e f = absurd (omega (arith, ap (λ (c : Bool). choose c (contentAt t (x + 1)) 0) (e ∙ f)))
-
-    go : (k : Kind) → kindAt t x ≡ k → Child (graphOf t) x (childOf t x i)
-    go Variable q = none-there (ap functionKind q) refl
-    go Constant q = none-there (ap functionKind q) refl
-    go Function q =
-        let within : i < contentAt t (x + 1) = omega (arith, ap (λ (c : Bool). choose c (contentAt t (x + 1)) 0) (ap functionKind q)) in (
-          i,
-          record {
-            named = symbolWith (contentAt t x) (contentAt t (x + 1));
-            children = childrenAt t x;
-            stands = kind-head t x q;
-            within = omega (arith, named-length t (x + 2) (contentAt t (x + 1)));
-            is = named-at t (x + 2) (contentAt t (x + 1)) i within;
-          },
-        )
-    go Pointer q = none-there (ap functionKind q) refl
-    go Count q = none-there (ap functionKind q) refl
-    go NoWord q = none-there (ap functionKind q) refl
+unfolding headOf
+degree-child t x i h =
+    let f : (kindAt t x ≡ Function) × (i < contentAt t (x + 1)) = degree-function t x i h in (
+      i,
+      record {
+        named = symbolWith (contentAt t x) (contentAt t (x + 1));
+        children = childrenAt t x;
+        stands = kind-head t x (f .0);
+        within = omega (arith, named-length t (x + 2) (contentAt t (x + 1)), f .1);
+        is = named-at t (x + 2) (contentAt t (x + 1)) i (f .1);
+      },
+    )

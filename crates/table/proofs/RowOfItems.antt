@@ -1,21 +1,23 @@
 -- The row of items does not break exactly where it is a row of items: `whole-items` and `items-whole`.
 -- Assumes nothing.
 use mathlib.Core.Path.{_≡_, refl, sym, ap, _∙_, subst}
-use mathlib.Core.Bool.{Bool, true, false}
+use mathlib.Core.Bool.{Bool, true, false, cond}
 use mathlib.Core.List.{List, [], _∷_, _++_}
 use mathlib.Core.Option.{none, some}
 use Prim.Native.Nat.{ℕ, zero, suc, _+_, _<_}
 use native.Mathlib.Omega.{arith}
 use lib.ListN.{length, getD}
-use Rattle.words.specs.Word.{kindOf, contentOf}
+use Rattle.words.specs.Word.{sameKind, nodeKinds, argumentKinds, isOneOf, kindOf, contentOf}
 use Rattle.words.specs.declared.kind.Kind.{Kind}
-use Rattle.words.specs.declared.kind.Kind.the-variants.{Variable, Constant, Function, Pointer, Count, NoWord}
+use Rattle.words.specs.declared.kind.Kind.the-variants.{Function, Count}
+use Rattle.words.proofs.WordLaws.{same-kind-exactly}
+use Rattle.words.proofs.KindLaws.{one-of}
 use Rattle.graphs.proofs.Classes.{never}
-use Rattle.table.specs.Layout.{argumentKind, Items, no-more, variable-item, constant-item, block, Wanted, item, count, arguments, more, itemKind, countKind, canStand, afterItem, after, atEnd, breakFrom}
+use Rattle.table.specs.Layout.{Items, no-more, variable-item, constant-item, block, Wanted, item, count, arguments, more, canStand, after, atEnd, breakFrom}
 use Rattle.table.proofs.Blocks.{break-stands, break-stops}
 
 AllArguments : List ℕ → Type 0
-AllArguments words = (i : ℕ) → i < length words → argumentKind (kindOf (getD words i 0)) ≡ true
+AllArguments words = (i : ℕ) → i < length words → isOneOf argumentKinds (kindOf (getD words i 0)) ≡ true
 
 -- k arguments, and then a row of items
 record AfterCount (k : ℕ) (row : List ℕ) : Type 0 where
@@ -38,43 +40,33 @@ unfolding AllArguments
 goes-more zero row items = record { words = []; rest = row; is = refl; counted = refl; all = λ i h. absurd (omega arith); items = items }
 goes-more (suc k) row after = after
 
-is-count : (k : Kind) → countKind k ≡ true → k ≡ Count
-is-count Variable e = never (cc)
-is-count Constant e = never (cc)
-is-count Function e = never (cc)
-is-count Pointer e = never (cc)
-is-count Count e = refl
-is-count NoWord e = never (cc)
-
-one-argument : (w k : ℕ) (rest : List ℕ) → argumentKind (kindOf w) ≡ true → AfterCount k rest → AfterCount (suc k) (w ∷ rest)
+one-argument : (w k : ℕ) (rest : List ℕ) → isOneOf argumentKinds (kindOf w) ≡ true → AfterCount k rest → AfterCount (suc k) (w ∷ rest)
 unfolding AllArguments
 one-argument w k rest e a =
     record { words = w ∷ a .words; rest = a .rest; is = ap (_∷_ w) (a .is); counted = ap suc (a .counted); all = every; items = a .items }
   where
-    every : (i : ℕ) → i < suc (length (a .words)) → argumentKind (kindOf (getD (w ∷ a .words) i 0)) ≡ true
+    every : (i : ℕ) → i < suc (length (a .words)) → isOneOf argumentKinds (kindOf (getD (w ∷ a .words) i 0)) ≡ true
     every zero h = e
     every (suc i) h = a .all i (omega arith)
 
-one-item : (w : ℕ) (rest : List ℕ) → itemKind (kindOf w) ≡ true → Goes (afterItem (kindOf w)) rest → Items (w ∷ rest)
+-- what may stand after an item
+abbrev next : Kind → Wanted
+next k = cond (sameKind k Function) count item
+
+one-item : (w : ℕ) (rest : List ℕ) → isOneOf nodeKinds (kindOf w) ≡ true → Goes (next (kindOf w)) rest → Items (w ∷ rest)
 unfolding AllArguments
-one-item w rest e g = go (kindOf w) refl e g
+one-item w rest e g =
+    one-of (λ k. kindOf w ≡ k → Goes (next k) rest → Items (w ∷ rest)) nodeKinds (variable-item, (constant-item, (function, tt)))
+    (kindOf w) e refl g
   where
     function : kindOf w ≡ Function → Goes count rest → Items (w ∷ rest)
     function f (k, words-rest, is, c, a) =
         subst (λ (row : List ℕ). Items (w ∷ row)) (sym (is ∙ ap (_∷_ k) (a .is))) (block (a .words) f c (a .counted) (a .all) (a .items))
 
-    go : (k : Kind) → kindOf w ≡ k → itemKind k ≡ true → Goes (afterItem k) rest → Items (w ∷ rest)
-    go Variable q s h = variable-item q h
-    go Constant q s h = constant-item q h
-    go Function q s h = function q h
-    go Pointer q s h = never (cc)
-    go Count q s h = never (cc)
-    go NoWord q s h = never (cc)
-
 one-word : (wanted : Wanted) (w : ℕ) (rest : List ℕ) → canStand wanted (kindOf w) ≡ true → Goes (after wanted w) rest → Goes wanted (w ∷ rest)
 unfolding canStand after
 one-word item w rest e g = one-item w rest e g
-one-word count w rest e g = (w, rest, refl, is-count (kindOf w) e, goes-more (contentOf w) rest g)
+one-word count w rest e g = (w, rest, refl, same-kind-exactly (kindOf w) Count .0 e, goes-more (contentOf w) rest g)
 one-word (arguments zero) w rest e g = tt
 one-word (arguments (suc k)) w rest e g = one-argument w k rest e (goes-more k rest g)
 
@@ -107,13 +99,13 @@ pub items-whole : {row : List ℕ} → Items row → (a : ℕ) → breakFrom ite
 unfolding breakFrom atEnd canStand after AllArguments
 items-whole no-more a = refl
 items-whole (variable-item {w} {rest} e items) a =
-    break-stands item a w rest (ap itemKind e) ∙ ap (λ (k : Kind). breakFrom (afterItem k) (a + 1) rest) e ∙ items-whole items (a + 1)
+    break-stands item a w rest (ap (isOneOf nodeKinds) e) ∙ ap (λ (k : Kind). breakFrom (next k) (a + 1) rest) e ∙ items-whole items (a + 1)
 items-whole (constant-item {w} {rest} e items) a =
-    break-stands item a w rest (ap itemKind e) ∙ ap (λ (k : Kind). breakFrom (afterItem k) (a + 1) rest) e ∙ items-whole items (a + 1)
+    break-stands item a w rest (ap (isOneOf nodeKinds) e) ∙ ap (λ (k : Kind). breakFrom (next k) (a + 1) rest) e ∙ items-whole items (a + 1)
 items-whole (block {f} {k} {rest} words e c counted all items) a =
-    break-stands item a f (k ∷ (words ++ rest)) (ap itemKind e)
-    ∙ ap (λ (q : Kind). breakFrom (afterItem q) (a + 1) (k ∷ (words ++ rest))) e
-    ∙ break-stands count (a + 1) k (words ++ rest) (ap countKind c)
+    break-stands item a f (k ∷ (words ++ rest)) (ap (isOneOf nodeKinds) e)
+    ∙ ap (λ (q : Kind). breakFrom (next q) (a + 1) (k ∷ (words ++ rest))) e
+    ∙ break-stands count (a + 1) k (words ++ rest) (same-kind-exactly (kindOf k) Count .1 c)
     ∙ ap (λ (j : ℕ). breakFrom (more j) (a + 1 + 1) (words ++ rest)) (sym counted)
     ∙ arguments-stand words rest all (a + 1 + 1)
     ∙ items-whole items (a + 1 + 1 + length words)

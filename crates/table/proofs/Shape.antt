@@ -1,10 +1,10 @@
 -- A table whose words, layout and pointers have no fault.
 --
 -- In order: word 0 and the words behind it; the block of a function (`block-arguments`, `block-count`), which ends
--- inside the table (`shaped-laid`); what an argument word names is a node (`child-node-kind`, `shaped-child`); counts are
+-- inside the table (`shaped-laid`); what an argument word names is a node (`shaped-child`); counts are
 -- small (`shaped-degree`). Assumes nothing.
 use mathlib.Core.Path.{_≡_, refl, sym, ap, _∙_}
-use mathlib.Core.Bool.{Bool, true, false, not, _||_}
+use mathlib.Core.Bool.{Bool, true, false, not, _&&_, _||_}
 use mathlib.Core.List.{List, [], _∷_}
 use Prim.Native.Nat.{ℕ, zero, suc, _+_, _≤_, _<_}
 use native.Mathlib.Omega.{arith}
@@ -12,17 +12,23 @@ use borrow.Author.Tests.{eqb-true, eqb-false, leb-true, leb-false}
 use lib.Dec.{eqb, leb, ltb}
 use lib.ListN.{length, drop}
 use lib.Seq.{getD-drop}
-use Rattle.words.specs.Word.{kindOf, contentOf}
+use Rattle.words.specs.Word.{sameKind, argumentKinds, isOneOf, kindOf, contentOf}
 use Rattle.words.specs.declared.kind.Kind.{Kind}
-use Rattle.words.specs.declared.kind.Kind.the-variants.{Variable, Constant, Function, Pointer, Count, NoWord}
+use Rattle.words.specs.declared.kind.Kind.the-variants.{Function, Pointer, Count, NoWord}
+use Rattle.words.proofs.Tests.{false-exactly, or-false}
+use Rattle.words.proofs.WordLaws.{same-kind-exactly}
+use Rattle.words.proofs.KindLaws.{not-both, one-of, every-kind}
 use Rattle.graphs.proofs.Classes.{never}
-use Rattle.table.specs.Table.{wordAt, kindAt, contentAt, nodeKind, functionKind, pointerKind, choose, named, degree, childOf, Laid}
-use Rattle.table.specs.Layout.{argumentKind, countKind, item}
-use Rattle.table.specs.Faults.{badKind, badLater, pointerOrCount, badTarget}
+use Rattle.table.specs.Table.{wordAt, kindAt, contentAt, nodeKind, choose, named, degree, childOf, Laid}
+use Rattle.table.specs.Layout.{item}
+use Rattle.table.specs.Faults.{badKind, badLater, badTarget}
 use Rattle.table.specs.Shaped.{Shaped}
 use Rattle.table.proofs.Leaves.{past-end}
 use Rattle.table.proofs.Blocks.{Arguments, Counted, Blocks, whole-begins}
-use Rattle.table.proofs.Children.{NamedChild, named-child, degree-child}
+use Rattle.table.proofs.Children.{degree-function}
+
+fails : (test : Bool) → (test ≡ true → ⊥) → test ≡ false
+fails test = false-exactly test (λ e. e, λ e. e) .1
 
 pub inside-kind : (t : List ℕ) (x : ℕ) (test : Kind → Bool) → test NoWord ≡ false → test (kindAt t x) ≡ true → x < length t
 inside-kind t x test fails e = go (leb (length t) x) refl
@@ -59,27 +65,27 @@ module _ {t : List ℕ} (c : Shaped t) where
       go (w ∷ r) h = omega arith
 
   -- the block of a function
-  pub block-arguments : (x : ℕ) → functionKind (kindAt t x) ≡ true → Arguments t (x + 2) (contentAt t (x + 1))
-  block-arguments zero f = let e : functionKind (kindAt t 0) ≡ false = ap functionKind kind-0 in never (cc)
+  pub block-arguments : (x : ℕ) → kindAt t x ≡ Function → Arguments t (x + 2) (contentAt t (x + 1))
+  block-arguments zero f = absurd (not-both kind-0 refl f)
   block-arguments (suc x) f =
       let e : wordAt (drop 1 t) x ≡ wordAt t (suc x) = behind x ∙ ap (wordAt t) (let q : x + 1 ≡ suc x = omega arith in q) in
-      let b : Counted (drop 1 t) (x + 1) = blocks x (ap (λ (w : ℕ). functionKind (kindOf w)) e ∙ f) in
+      let b : Counted (drop 1 t) (x + 1) = blocks x (ap kindOf e ∙ f) in
       let n : wordAt (drop 1 t) (x + 1) ≡ wordAt t (suc x + 1) = behind (x + 1) ∙ ap (wordAt t) (let q : x + 1 + 1 ≡ suc x + 1 = omega arith in q) in
       let k : contentAt (drop 1 t) (x + 1) ≡ contentAt t (suc x + 1) = ap contentOf n in
       record {
         fit = omega (arith, b .arguments-follow .fit, drop-length, k);
         stand = λ i h.
-            ap (λ (w : ℕ). argumentKind (kindOf w))
+            ap (λ (w : ℕ). isOneOf argumentKinds (kindOf w))
             (sym (behind (x + 1 + 1 + i) ∙ ap (wordAt t) (let q : x + 1 + 1 + i + 1 ≡ suc x + 2 + i = omega arith in q)))
             ∙ b .arguments-follow .stand i (omega (arith, k));
       }
 
-  pub block-count : (x : ℕ) → functionKind (kindAt t x) ≡ true → countKind (kindAt t (x + 1)) ≡ true
-  block-count zero f = let e : functionKind (kindAt t 0) ≡ false = ap functionKind kind-0 in never (cc)
+  pub block-count : (x : ℕ) → kindAt t x ≡ Function → kindAt t (x + 1) ≡ Count
+  block-count zero f = absurd (not-both kind-0 refl f)
   block-count (suc x) f =
       let e : wordAt (drop 1 t) x ≡ wordAt t (suc x) = behind x ∙ ap (wordAt t) (let q : x + 1 ≡ suc x = omega arith in q) in
       let n : wordAt (drop 1 t) (x + 1) ≡ wordAt t (suc x + 1) = behind (x + 1) ∙ ap (wordAt t) (let q : x + 1 + 1 ≡ suc x + 1 = omega arith in q) in
-      ap (λ (w : ℕ). countKind (kindOf w)) (sym n) ∙ blocks x (ap (λ (w : ℕ). functionKind (kindOf w)) e ∙ f) .counts
+      ap kindOf (sym n) ∙ blocks x (ap kindOf e ∙ f) .counts
 
   pub shaped-laid : Laid t
   shaped-laid x f = omega (arith, block-arguments x f .fit)
@@ -90,76 +96,48 @@ module _ {t : List ℕ} (c : Shaped t) where
   is-word zero h k e = absurd (omega arith)
   is-word (suc a) h k e = c .words (suc a) k (ap (λ (q : Kind). badKind q (contentAt t (suc a))) e)
 
-  not-or : (a b : Bool) → ((a || b) ≡ true → ⊥) → (a ≡ false) × (b ≡ false)
-  not-or true b f = absurd (f refl)
-  not-or false true f = absurd (f refl)
-  not-or false false f = (refl, refl)
-
   pointer-node : (a : ℕ) → a < length t → kindAt t a ≡ Pointer → nodeKind (kindAt t (contentAt t a)) ≡ true
-  unfolding badTarget pointerOrCount
+  unfolding badTarget
   pointer-node a h e =
-      let bad : (eqb (contentAt t a) 0 || (leb (length t) (contentAt t a) || pointerOrCount (kindAt t (contentAt t a)))) ≡ true → ⊥ = λ q. c .pointers a h (ap (λ (k : Kind). badTarget k (contentAt t a) t) e ∙ q) in
-      let one : (eqb (contentAt t a) 0 ≡ false) × ((leb (length t) (contentAt t a) || pointerOrCount (kindAt t (contentAt t a))) ≡ false) = not-or _ _ bad in
-      let two : (leb (length t) (contentAt t a) ≡ false) × (pointerOrCount (kindAt t (contentAt t a)) ≡ false) = not-or _ _ (λ q. never (cc)) in
-      go (kindAt t (contentAt t a)) refl (two .1)
-      (let z : contentAt t a ≡ 0 → ⊥ = eqb-false (contentAt t a) 0 (one .0) in omega arith)
-      (leb-false (length t) (contentAt t a) (two .0))
-    where
-      go : (k : Kind) → kindAt t (contentAt t a) ≡ k → pointerOrCount k ≡ false → 0 < contentAt t a → contentAt t a < length t → nodeKind (kindAt t (contentAt t a)) ≡ true
-      go Variable q s l u = ap nodeKind q
-      go Constant q s l u = ap nodeKind q
-      go Function q s l u = ap nodeKind q
-      go Pointer q s l u = never (cc)
-      go Count q s l u = never (cc)
-      go NoWord q s l u = absurd (is-word (contentAt t a) l u q)
+      let b = contentAt t a in
+      let other : Kind → Bool = isOneOf (Pointer ∷ Count ∷ []) in
+      let one = or-false (eqb b 0) (leb (length t) b || other (kindAt t b)) (fails _ (λ q. c .pointers a h (ap (λ (k : Kind). sameKind k Pointer && badTarget t b) e ∙ q))) in
+      let two = or-false (leb (length t) b) (other (kindAt t b)) (one .1) in
+      let z : b ≡ 0 → ⊥ = eqb-false b 0 (one .0) in
+      every-kind (λ k. (k ≡ NoWord → ⊥) → other k ≡ false → nodeKind k ≡ true) (λ w n. refl) (λ w n. refl) (λ w n. refl) (λ w n. sym n) (λ w n. sym n) (λ w n. absurd (w refl))
+      (kindAt t b) (is-word b (omega arith) (leb-false (length t) b (two .0))) (two .1)
 
   -- the node that an argument word names
-  argument-node : (a : ℕ) → a < length t → argumentKind (kindAt t a) ≡ true → nodeKind (kindAt t (named t a)) ≡ true
+  argument-node : (a : ℕ) → a < length t → isOneOf argumentKinds (kindAt t a) ≡ true → nodeKind (kindAt t (named t a)) ≡ true
   unfolding named choose
-  argument-node a h e = go (kindAt t a) refl e
+  argument-node a h e =
+      one-of (λ k. kindAt t a ≡ k → nodeKind (kindAt t (named t a)) ≡ true) argumentKinds
+      ((λ q. at q (ap nodeKind q)), ((λ q. at q (ap nodeKind q)), ((λ q. at q (pointer-node a h q)), tt))) (kindAt t a) e refl
     where
-      at : {b : ℕ} → choose (pointerKind (kindAt t a)) (contentAt t a) a ≡ b → nodeKind (kindAt t b) ≡ true → nodeKind (kindAt t (choose (pointerKind (kindAt t a)) (contentAt t a) a)) ≡ true
-      at q s = ap (λ (b : ℕ). nodeKind (kindAt t b)) q ∙ s
+      at : {k : Kind} → kindAt t a ≡ k → nodeKind (kindAt t (choose (sameKind k Pointer) (contentAt t a) a)) ≡ true → nodeKind (kindAt t (named t a)) ≡ true
+      at q s = ap (λ (k : Kind). nodeKind (kindAt t (choose (sameKind k Pointer) (contentAt t a) a))) q ∙ s
 
-      go : (k : Kind) → kindAt t a ≡ k → argumentKind k ≡ true → nodeKind (kindAt t (choose (pointerKind (kindAt t a)) (contentAt t a) a)) ≡ true
-      go Variable q s = at (ap (λ (k : Kind). choose (pointerKind k) (contentAt t a) a) q) (ap nodeKind q)
-      go Constant q s = at (ap (λ (k : Kind). choose (pointerKind k) (contentAt t a) a) q) (ap nodeKind q)
-      go Function q s = never (cc)
-      go Pointer q s = at (ap (λ (k : Kind). choose (pointerKind k) (contentAt t a) a) q) (pointer-node a h q)
-      go Count q s = never (cc)
-      go NoWord q s = never (cc)
+  pub shaped-child : (x i : ℕ) → i < degree t x → nodeKind (kindAt t (childOf t x i)) ≡ true
+  shaped-child x i h =
+      let f : (kindAt t x ≡ Function) × (i < contentAt t (x + 1)) = degree-function t x i h in
+      let b : Arguments t (x + 2) (contentAt t (x + 1)) = block-arguments x (f .0) in
+      argument-node (x + 2 + i) (omega (arith, b .fit, f .1)) (b .stand i (f .1))
 
-  pub child-node-kind : (x y : ℕ) → NamedChild t x y → nodeKind (kindAt t y) ≡ true
-  child-node-kind x y n =
-      let b : Arguments t (x + 2) (contentAt t (x + 1)) = block-arguments x (n .function-there) in
-      sym (ap (λ (z : ℕ). nodeKind (kindAt t z)) (n .is))
-      ∙ argument-node (x + 2 + n .place) (omega (arith, b .fit, n .within)) (b .stand (n .place) (n .within))
-
-  small-count : (a : ℕ) → 0 < a → a < length t → countKind (kindAt t a) ≡ true → contentAt t a ≤ 255
-  unfolding badLater badKind
-  small-count zero l u e = absurd (omega arith)
-  small-count (suc a) l u e = go (kindAt t (suc a)) refl e
+  pub shaped-degree : (x : ℕ) → degree t x ≤ 255
+  unfolding degree choose badLater badKind
+  shaped-degree x = go (sameKind (kindAt t x) Function) refl
     where
-      go : (k : Kind) → kindAt t (suc a) ≡ k → countKind k ≡ true → contentAt t (suc a) ≤ 255
-      go Variable q s = never (cc)
-      go Constant q s = never (cc)
-      go Function q s = never (cc)
-      go Pointer q s = never (cc)
-      go Count q s =
+      small-count : (a : ℕ) → 0 < a → a < length t → kindAt t a ≡ Count → contentAt t a ≤ 255
+      small-count zero l u e = absurd (omega arith)
+      small-count (suc a) l u e =
           omega (
             arith,
             leb-false 256 (contentAt t (suc a))
-                (not-or (eqb (contentAt t (suc a)) 0) (ltb 255 (contentAt t (suc a))) (λ r. c .words (suc a) u (ap (λ (k : Kind). badKind k (contentAt t (suc a))) q ∙ r)) .1),
+                (or-false (eqb (contentAt t (suc a)) 0) (ltb 255 (contentAt t (suc a))) (fails _ (λ r. c .words (suc a) u (ap (λ (k : Kind). badKind k (contentAt t (suc a))) e ∙ r))) .1),
           )
-      go NoWord q s = never (cc)
 
-  pub shaped-degree : (x : ℕ) → degree t x ≤ 255
-  unfolding degree choose
-  shaped-degree x = go (functionKind (kindAt t x)) refl
-    where
-      go : (b : Bool) → functionKind (kindAt t x) ≡ b → choose b (contentAt t (x + 1)) 0 ≤ 255
-      go true e = small-count (x + 1) (omega arith) (omega (arith, shaped-laid x e)) (block-count x e)
+      go : (b : Bool) → sameKind (kindAt t x) Function ≡ b → choose b (contentAt t (x + 1)) 0 ≤ 255
+      go true e =
+          let f : kindAt t x ≡ Function = same-kind-exactly (kindAt t x) Function .0 e in
+          small-count (x + 1) (omega arith) (omega (arith, shaped-laid x f)) (block-count x f)
       go false e = omega arith
-
-  pub shaped-child : (x i : ℕ) → i < degree t x → nodeKind (kindAt t (childOf t x i)) ≡ true
-  shaped-child x i h = child-node-kind x (childOf t x i) (named-child t x (childOf t x i) (degree-child t x i h))

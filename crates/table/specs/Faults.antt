@@ -8,8 +8,9 @@ use mathlib.Core.Option.{some}
 use Prim.Native.Nat.{ℕ, zero, suc, _+_, _*_, _<_}
 use lib.Dec.{eqb, leb, ltb}
 use lib.ListN.{length, getD, take, drop}
+use Rattle.words.specs.Word.{sameKind, isOneOf}
 use Rattle.words.specs.declared.kind.Kind.{Kind}
-use Rattle.words.specs.declared.kind.Kind.the-variants.{Variable, Constant, Function, Pointer, Count, NoWord}
+use Rattle.words.specs.declared.kind.Kind.the-variants.{Variable, Pointer, Count, NoWord}
 use Rattle.graphs.specs.Graph.{Child, Steps}
 use Rattle.graphs.specs.Partition.{Pair, Clash, Cycle}
 use Rattle.table.specs.Table.{wordAt, kindAt, contentAt, nodeKind, graphOf}
@@ -26,12 +27,7 @@ pub record Job : Type 0 where
 -- ---- one word
 
 unfoldable pub badKind : Kind → ℕ → Bool
-badKind Variable content = false
-badKind Constant content = false
-badKind Function content = false
-badKind Pointer content = false
-badKind Count content = eqb content 0 || ltb 255 content
-badKind NoWord content = true
+badKind k content = sameKind k NoWord || (sameKind k Count && (eqb content 0 || ltb 255 content))
 
 unfoldable pub badLater : ℕ → List ℕ → Bool
 badLater zero t = not (eqb (wordAt t 0) 0)
@@ -41,25 +37,13 @@ badLater (suc a) t = badKind (kindAt t (suc a)) (contentAt t (suc a))
 abbrev pub badWord : List ℕ → ℕ → Bool
 badWord t a = badLater a t
 
-unfoldable pub pointerOrCount : Kind → Bool
-pointerOrCount Variable = false
-pointerOrCount Constant = false
-pointerOrCount Function = false
-pointerOrCount Pointer = true
-pointerOrCount Count = true
-pointerOrCount NoWord = false
+-- "0, an address of n or more, a pointer or a count"
+unfoldable pub badTarget : List ℕ → ℕ → Bool
+badTarget t b = eqb b 0 || (leb (length t) b || isOneOf (Pointer ∷ Count ∷ []) (kindAt t b))
 
-unfoldable pub badTarget : Kind → ℕ → List ℕ → Bool
-badTarget Variable b t = false
-badTarget Constant b t = false
-badTarget Function b t = false
-badTarget Pointer b t = eqb b 0 || (leb (length t) b || pointerOrCount (kindAt t b))
-badTarget Count b t = false
-badTarget NoWord b t = false
-
--- a pointer that "names 0, an address of n or more, a pointer or a count"
+-- a pointer that "names" such a target
 abbrev pub badPointer : List ℕ → ℕ → Bool
-badPointer t a = badTarget (kindAt t a) (contentAt t a) t
+badPointer t a = sameKind (kindAt t a) Pointer && badTarget t (contentAt t a)
 
 -- "a variable's label stood earlier"
 pub record Repeats (t : List ℕ) (a : ℕ) : Type 0 where

@@ -1,26 +1,18 @@
 -- What stands at a node, at its top, as the crate `words` has it: what a meeting of two nodes goes by. Assumes nothing.
-use mathlib.Core.Bool.{Bool, true, false}
 use mathlib.Core.List.{List}
 use Prim.Native.Nat.{ℕ, _+_}
+use Rattle.words.specs.Word.{sameKind}
 use Rattle.words.specs.declared.kind.Kind.{Kind}
 use Rattle.words.specs.declared.numbers.Label.{Label}
 use Rattle.words.specs.declared.head.Head.{Head}
-use Rattle.table.specs.Table.{choose, kindAt, contentAt, functionKind}
+use Rattle.table.specs.Table.{choose, kindAt, contentAt}
 
 abbrev pub labelAt : List ℕ → ℕ → Label
 labelAt t x = record { 0 = contentAt t x }
-
-abbrev pub constantKind : Kind → Bool
-constantKind Kind.Variable = false
-constantKind Kind.Constant = true
-constantKind Kind.Function = false
-constantKind Kind.Pointer = false
-constantKind Kind.Count = false
-constantKind Kind.NoWord = false
 
 -- A function with its label and argument count, or a constant or a variable with its label. What is no node is taken for a
 -- variable; nobody asks for its head.
 unfoldable pub top : List ℕ → ℕ → Head
 top t x =
-    choose (functionKind (kindAt t x)) (Head.Function (labelAt t x) (contentAt t (x + 1)))
-    (choose (constantKind (kindAt t x)) (Head.Constant (labelAt t x)) (Head.Variable (labelAt t x)))
+    choose (sameKind (kindAt t x) Kind.Function) (Head.Function (labelAt t x) (contentAt t (x + 1)))
+    (choose (sameKind (kindAt t x) Kind.Constant) (Head.Constant (labelAt t x)) (Head.Variable (labelAt t x)))

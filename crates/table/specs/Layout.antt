@@ -1,24 +1,15 @@
 -- The row of items, and where it breaks. The sentences quoted are document 01's. Assumes nothing.
 use mathlib.Core.Path.{_≡_}
-use mathlib.Core.Bool.{Bool, true, false}
+use mathlib.Core.Bool.{Bool, true, false, cond}
 use mathlib.Core.List.{List, [], _∷_, _++_}
 use mathlib.Core.Option.{Option, none, some}
 use Prim.Native.Nat.{ℕ, zero, suc, _+_, _<_}
 use lib.ListN.{length, getD}
-use Rattle.words.specs.Word.{kindOf, contentOf}
+use Rattle.words.specs.Word.{sameKind, nodeKinds, argumentKinds, isOneOf, kindOf, contentOf}
 use Rattle.words.specs.declared.kind.Kind.{Kind}
-use Rattle.words.specs.declared.kind.Kind.the-variants.{Variable, Constant, Function, Pointer, Count, NoWord}
+use Rattle.words.specs.declared.kind.Kind.the-variants.{Variable, Constant, Function, Count}
 
 -- ---- a row of items
-
--- "k argument words, each a variable, a constant or a pointer"
-abbrev pub argumentKind : Kind → Bool
-argumentKind Variable = true
-argumentKind Constant = true
-argumentKind Function = false
-argumentKind Pointer = true
-argumentKind Count = false
-argumentKind NoWord = false
 
 -- "the table is a row of items: a variable, a constant, or a block. A block is a function word, a count word k, then k
 -- argument words"
@@ -27,7 +18,7 @@ pub data Items : List ℕ → Type 0 where
   variable-item : {w : ℕ} {rest : List ℕ} → kindOf w ≡ Variable → Items rest → Items (w ∷ rest)
   constant-item : {w : ℕ} {rest : List ℕ} → kindOf w ≡ Constant → Items rest → Items (w ∷ rest)
   block : {f k : ℕ} {rest : List ℕ} (arguments : List ℕ) → kindOf f ≡ Function → kindOf k ≡ Count → length arguments ≡ contentOf k
-      → ((i : ℕ) → i < length arguments → argumentKind (kindOf (getD arguments i 0)) ≡ true) → Items rest → Items (f ∷ k ∷ (arguments ++ rest))
+      → ((i : ℕ) → i < length arguments → isOneOf argumentKinds (kindOf (getD arguments i 0)) ≡ true) → Items rest → Items (f ∷ k ∷ (arguments ++ rest))
 
 -- ---- where the row breaks
 
@@ -41,34 +32,11 @@ abbrev pub more : ℕ → Wanted
 more zero = item
 more (suc k) = arguments (suc k)
 
-abbrev pub itemKind : Kind → Bool
-itemKind Variable = true
-itemKind Constant = true
-itemKind Function = true
-itemKind Pointer = false
-itemKind Count = false
-itemKind NoWord = false
-
-abbrev pub countKind : Kind → Bool
-countKind Variable = false
-countKind Constant = false
-countKind Function = false
-countKind Pointer = false
-countKind Count = true
-countKind NoWord = false
-
+-- an item begins with a node
 unfoldable pub canStand : Wanted → Kind → Bool
-canStand item k = itemKind k
-canStand count k = countKind k
-canStand (arguments j) k = argumentKind k
-
-abbrev pub afterItem : Kind → Wanted
-afterItem Variable = item
-afterItem Constant = item
-afterItem Function = count
-afterItem Pointer = item
-afterItem Count = item
-afterItem NoWord = item
+canStand item k = isOneOf nodeKinds k
+canStand count k = sameKind k Count
+canStand (arguments j) k = isOneOf argumentKinds k
 
 abbrev pub less : ℕ → ℕ
 less zero = zero
@@ -76,7 +44,7 @@ less (suc k) = k
 
 -- what may stand after a word that stands
 unfoldable pub after : Wanted → ℕ → Wanted
-after item w = afterItem (kindOf w)
+after item w = cond (sameKind (kindOf w) Function) count item
 after count w = more (contentOf w)
 after (arguments j) w = more (less j)
 

@@ -5,7 +5,7 @@ use mathlib.Core.List.{List, [], _∷_}
 use Prim.Native.Nat.{ℕ, zero, suc, _+_, _<_}
 use native.Mathlib.Decide.{ℕ-discrete}
 use lib.ListN.{length, getD}
-use Rattle.words.specs.Word.{kindOf, contentOf}
+use Rattle.words.specs.Word.{sameKind, nodeKinds, isOneOf, kindOf, contentOf}
 use Rattle.words.specs.declared.kind.Kind.{Kind}
 use Rattle.words.specs.declared.kind.Kind.the-variants.{Variable, Constant, Function, Pointer, Count, NoWord}
 use Rattle.words.specs.declared.head.Symbol.{Symbol}
@@ -30,28 +30,7 @@ contentAt t a = contentOf (wordAt t a)
 
 -- A variable, constant or function word: "Those three kinds of word are the nodes."
 abbrev pub nodeKind : Kind → Bool
-nodeKind Variable = true
-nodeKind Constant = true
-nodeKind Function = true
-nodeKind Pointer = false
-nodeKind Count = false
-nodeKind NoWord = false
-
-abbrev pub functionKind : Kind → Bool
-functionKind Variable = false
-functionKind Constant = false
-functionKind Function = true
-functionKind Pointer = false
-functionKind Count = false
-functionKind NoWord = false
-
-abbrev pub pointerKind : Kind → Bool
-pointerKind Variable = false
-pointerKind Constant = false
-pointerKind Function = false
-pointerKind Pointer = true
-pointerKind Count = false
-pointerKind NoWord = false
+nodeKind k = isOneOf nodeKinds k
 
 -- ---- symbols
 
@@ -74,7 +53,7 @@ TableSymbols = record { Symbol = Symbol; decide = symbol-decide; count = λ s. s
 
 -- The node that the argument word at a names: the word itself, or the one that a pointer names.
 unfoldable pub named : List ℕ → ℕ → ℕ
-named t a = choose (pointerKind (kindAt t a)) (contentAt t a) a
+named t a = choose (sameKind (kindAt t a) Pointer) (contentAt t a) a
 
 unfoldable pub namedFrom : List ℕ → ℕ → ℕ → List ℕ
 namedFrom t a zero = []
@@ -103,7 +82,7 @@ graphOf t = record { size = length t; head = λ x. headOf (kindAt t x) t x }
 
 -- how many children the node at x has; what is no function has none
 unfoldable pub degree : List ℕ → ℕ → ℕ
-degree t x = choose (functionKind (kindAt t x)) (contentAt t (x + 1)) 0
+degree t x = choose (sameKind (kindAt t x) Function) (contentAt t (x + 1)) 0
 
 -- the child of a function at place i, from 0
 abbrev pub childOf : List ℕ → ℕ → ℕ → ℕ
@@ -111,4 +90,4 @@ childOf t x i = named t (x + 2 + i)
 
 -- Every block ends inside the table: what a layout that does not break gives (`laid`, proofs/WellFormed.antt).
 abbrev pub Laid : List ℕ → Type 0
-Laid t = (x : ℕ) → functionKind (kindAt t x) ≡ true → x + 1 + contentAt t (x + 1) < length t
+Laid t = (x : ℕ) → kindAt t x ≡ Function → x + 1 + contentAt t (x + 1) < length t

@@ -4,7 +4,6 @@
 //
 // Those that go into a block require that each block ends inside the table, which a checked table
 // gives.
-mod kinds;
 pub mod node;
 
 pub use node::child;

@@ -2,11 +2,13 @@
 ghost use mathlib.Core.Path.{_≡_};
 ghost use Prim.Native.Nat.{_+_, _<_, _≤_};
 ghost use lib.ListN.{length};
-ghost use Rattle.words.specs.Word.{kindOf};
+ghost use Rattle.words.specs.Word.{kindOf, sameKind};
+ghost use Rattle.words.specs.declared.kind.Kind.{Kind};
 ghost use Rattle.table.specs.Heads.{top};
-ghost use Rattle.table.specs.Table.{kindAt, nodeKind, functionKind, named, degree as degreeAt, childOf, Laid};
-use crate::kinds;
+ghost use Rattle.table.specs.Table.{kindAt, nodeKind, named, degree as degreeAt, childOf, Laid};
 use words::head::Head;
+use words::kind;
+use words::kind::Kind;
 use words::numbers::Address;
 use words::word;
 
@@ -14,7 +16,7 @@ use words::word;
 pub fn is_node_word(word: u32) -> bool
     ensures { λ r. ⌜ r ≡ nodeKind (kindOf word) ⌝ }
 {
-    kinds::is_node_kind(word::kind(word))
+    kind::is_node(word::kind(word))
 }
 
 // Whether the word at an address is a node. No address past the end is.
@@ -31,9 +33,13 @@ pub fn is_node(table: &[u32], x: Address) -> bool
 // Whether the word at an address is a function. What is no function has no children.
 pub fn is_function(table: &[u32], x: Address) -> bool
     requires { ⌜ x .0 < length (now table) ⌝ }
-    ensures { λ r. ⌜ r ≡ functionKind (kindAt (now (table .entry)) (x .0)) ⌝ }
+    ensures { λ r. ⌜ r ≡ sameKind (kindAt (now (table .entry)) (x .0)) Kind.Function ⌝ }
 {
-    kinds::is_function(word::kind(table[x.0 as usize]))
+    if let Kind::Function = word::kind(table[x.0 as usize]) {
+        true
+    } else {
+        false
+    }
 }
 
 // How many children the node at an address has.
@@ -42,7 +48,7 @@ pub fn degree(table: &[u32], x: Address) -> u16
     ensures { λ r. ⌜ r ≡ degreeAt (now (table .entry)) (x .0) ⌝ }
 {
     let at = x.0 as usize;
-    if kinds::is_function(word::kind(table[at])) {
+    if let Kind::Function = word::kind(table[at]) {
         word::content(table[at + 1])
     } else {
         0
@@ -55,7 +61,7 @@ fn named_at(table: &[u32], at: u16) -> Address
     ensures { λ r. ⌜ r .0 ≡ named (now (table .entry)) at ⌝ }
 {
     let word = table[at as usize];
-    if kinds::is_pointer(word::kind(word)) {
+    if let Kind::Pointer = word::kind(word) {
         word::address(word)
     } else {
         Address(at)
@@ -78,13 +84,9 @@ pub fn head(table: &[u32], x: Address) -> Head
 {
     let at = x.0 as usize;
     let word = table[at];
-    let kind = word::kind(word);
-    if kinds::is_function(kind) {
-        return Head::Function(word::label(word), word::content(table[at + 1]));
-    }
-    if kinds::is_constant(kind) {
-        Head::Constant(word::label(word))
-    } else {
-        Head::Variable(word::label(word))
+    match word::kind(word) {
+        Kind::Function => Head::Function(word::label(word), word::content(table[at + 1])),
+        Kind::Constant => Head::Constant(word::label(word)),
+        _ => Head::Variable(word::label(word)),
     }
 }

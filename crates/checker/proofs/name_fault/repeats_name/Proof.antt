@@ -1,7 +1,10 @@
 -- `checker::name_fault::repeats_name` meets its contract: a word that is no variable repeats none. Assumes nothing.
-use borrow.Author.Tests.{not-true, not-false}
+use mathlib.Core.List.{[], _∷_}
+use mathlib.Core.Path.{sym, _∙_}
+use Rattle.words.specs.declared.kind.Kind.the-variants.{Variable}
+use Rattle.words.proofs.KindLaws.{told-others}
+use Rattle.checker.proofs.NameLaws.{judged-other}
 use borrow.Author.Needs.{needs}
-use Rattle.checker.proofs.NameLaws.{variable-read, judged-other}
 use Rattle.checker.proofs.name_fault.repeats_name.Statement.{statement}
 use Rattle.checker.proofs.name_fault.repeats_name.Tie as tie
 
@@ -14,27 +17,22 @@ shared-slice-read-kind c = search needs
 kind-requires : tie.Need-kind-requires
 kind-requires c κs = search needs
 
-is-variable-requires : tie.Need-is-variable-requires
-is-variable-requires c κs = search needs
-
-returns : tie.Need-returns
-returns c =
-    let p : tie.Start = search needs in
-    judged-other (p .pre .0) (c .before .before .kind .ensures) (c .before .is-variable .ensures) (not-true _ (c .if1 .taken))
+enum-told : tie.Need-enum-told
+enum-told c = search needs
 
 repeats-variable-requires : tie.Need-repeats-variable-requires
 repeats-variable-requires c κs =
-    let p : tie.Start = search needs in (
-      p .pre .0,
-      p .pre .1,
-      variable-read (p .args .table .now) (p .args .at) (c .before .before .before .kind .ensures) (c .before .before .is-variable .ensures) (not-false _ (c .before .if1 .left)),
-    )
+    let p : tie.Start = search needs in (p .pre .0, p .pre .1, sym (c .before .before .before .kind .ensures) ∙ c .before .enum-told .given .1)
 
 same-length : tie.Need-same-length
 same-length c = search needs
 
+returns : tie.Need-returns
+returns c = search needs
+
 returns-2 : tie.Need-returns-2
-returns-2 c = search needs
+returns-2 c =
+    let p : tie.Start = search needs in judged-other (p .pre .0) (λ e. told-others (Variable ∷ []) (c .before .kind .result) (c .match .keys2) .0 (c .before .kind .ensures ∙ e))
 
 pub repeats-name-spec : {M : Type 1} → statement M
 repeats-name-spec =
@@ -43,8 +41,8 @@ repeats-name-spec =
     mul-kind
     shared-slice-read-kind
     kind-requires
-    is-variable-requires
-    returns
+    enum-told
     repeats-variable-requires
     same-length
+    returns
     returns-2)

@@ -1,11 +1,11 @@
--- `checker::sound::after_item` meets its contract: one case a kind. Assumes nothing.
-use mathlib.Core.Path.{sym, ap, _∙_}
+-- `checker::sound::after_item` meets its contract: one case a branch. Assumes nothing.
+use mathlib.Core.Path.{refl, sym, _∙_}
 use native.Mathlib.Omega.{arith}
-use borrow.Author.Needs.{needs}
-use Rattle.checker.specs.Names.{variableKind}
-use Rattle.checker.proofs.NameLaws.{is-other, stays-same, chained-pass, judged-stays}
+use Rattle.words.proofs.KindLaws.{not-both}
+use Rattle.checker.proofs.NameLaws.{stays-same, chained-pass, judged-stays}
 use Rattle.checker.proofs.SoundLaws.{function-word}
 use Rattle.checker.proofs.WalkLaws.{nowhere, next-variable, next-constant, next-block}
+use borrow.Author.Needs.{needs}
 use Rattle.checker.proofs.sound.after_item.Statement.{statement}
 use Rattle.checker.proofs.sound.after_item.Tie as tie
 
@@ -42,20 +42,7 @@ add-after-block c = search needs
 
 after-block-requires : tie.Need-after-block-requires
 after-block-requires c κs =
-    let p : tie.Start = search needs in (
-      chained-pass (p .pre .0) (is-other _ (ap variableKind (sym (c .before .before .before .kind .ensures) ∙ c .before .enum-told3 .given .1))),
-      omega arith,
-      omega arith,
-    )
-
-enum-told-4 : tie.Need-enum-told-4
-enum-told-4 c = search needs
-
-enum-told-5 : tie.Need-enum-told-5
-enum-told-5 c = search needs
-
-enum-told-6 : tie.Need-enum-told-6
-enum-told-6 c = search needs
+    let p : tie.Start = search needs in (chained-pass (p .pre .0) (not-both (sym (c .before .before .before .kind .ensures) ∙ c .before .enum-told3 .given .1) refl), omega arith, omega arith)
 
 same-length : tie.Need-same-length
 same-length c = search needs
@@ -68,30 +55,21 @@ same-length-2 c = search needs
 
 returns-2 : tie.Need-returns-2
 returns-2 c =
-    let p : tie.Start = search needs in
-    next-variable (p .args .table .now) (p .args .at) (p .pre .1) (p .pre .2) (c .before .before .before .repeats-variable .result) (sym (c .before .before .before .before .before .before .before .kind .ensures) ∙ c .before .before .before .before .before .enum-told .given .1) (c .before .before .before .repeats-variable .ensures) (c .if1 .left)
+    let p : tie.Start = search needs in next-variable (p .args .table .now) (p .args .at) (p .pre .1) (p .pre .2) (c .before .before .before .repeats-variable .result) (sym (c .before .before .before .before .before .before .before .kind .ensures) ∙ c .before .before .before .before .before .enum-told .given .1) (c .before .before .before .repeats-variable .ensures) (c .if1 .left)
 
 returns-3 : tie.Need-returns-3
 returns-3 c =
-    let p : tie.Start = search needs in
-    next-constant (p .args .table .now) (p .args .at) (p .pre .1) (p .pre .2) (p .pre .0) (sym (c .before .before .kind .ensures) ∙ c .enum-told2 .given .1)
+    let p : tie.Start = search needs in next-constant (p .args .table .now) (p .args .at) (p .pre .1) (p .pre .2) (p .pre .0) (sym (c .before .before .kind .ensures) ∙ c .enum-told2 .given .1)
 
 same-length-3 : tie.Need-same-length-3
 same-length-3 c = search needs
 
 returns-4 : tie.Need-returns-4
 returns-4 c =
-    let p : tie.Start = search needs in
-    next-block (function-word (p .args .table .now) (p .args .at) (p .pre .1) (p .pre .2) (sym (c .before .before .before .before .before .before .kind .ensures) ∙ c .before .before .before .before .enum-told3 .given .1)) (c .before .before .after-block .ensures)
+    let p : tie.Start = search needs in next-block (function-word (p .args .table .now) (p .args .at) (p .pre .1) (p .pre .2) (sym (c .before .before .before .before .before .before .kind .ensures) ∙ c .before .before .before .before .enum-told3 .given .1)) (c .before .before .after-block .ensures)
 
 returns-5 : tie.Need-returns-5
 returns-5 c = nowhere (stays-same _ _)
-
-returns-6 : tie.Need-returns-6
-returns-6 c = nowhere (stays-same _ _)
-
-returns-7 : tie.Need-returns-7
-returns-7 c = nowhere (stays-same _ _)
 
 pub after-item-spec : {M : Type 1} → statement M
 after-item-spec =
@@ -108,9 +86,6 @@ after-item-spec =
     enum-told-3
     add-after-block
     after-block-requires
-    enum-told-4
-    enum-told-5
-    enum-told-6
     same-length
     returns
     same-length-2
@@ -118,6 +93,4 @@ after-item-spec =
     returns-3
     same-length-3
     returns-4
-    returns-5
-    returns-6
-    returns-7)
+    returns-5)

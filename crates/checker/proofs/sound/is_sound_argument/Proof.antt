@@ -1,9 +1,8 @@
--- `checker::sound::is_sound_argument` meets its contract: one case a kind. Assumes nothing.
+-- `checker::sound::is_sound_argument` meets its contract: one case a branch. Assumes nothing.
 use mathlib.Core.Path.{sym, ap, _∙_}
-use borrow.Author.Needs.{needs}
 use Rattle.table.specs.Faults.{badTarget}
-use Rattle.words.specs.declared.kind.Kind.the-variants.{Pointer}
 use Rattle.checker.proofs.WalkLaws.{variable-argument, constant-argument, pointer-argument, no-argument}
+use borrow.Author.Needs.{needs}
 use Rattle.checker.proofs.sound.is_sound_argument.Statement.{statement}
 use Rattle.checker.proofs.sound.is_sound_argument.Tie as tie
 
@@ -29,48 +28,29 @@ enum-told-2 c = search needs
 enum-told-3 : tie.Need-enum-told-3
 enum-told-3 c = search needs
 
-enum-told-4 : tie.Need-enum-told-4
-enum-told-4 c = search needs
-
 address-requires : tie.Need-address-requires
 address-requires c κs = search needs
 
 is-bad-target-requires : tie.Need-is-bad-target-requires
 is-bad-target-requires c κs = search needs
 
-enum-told-5 : tie.Need-enum-told-5
-enum-told-5 c = search needs
-
-enum-told-6 : tie.Need-enum-told-6
-enum-told-6 c = search needs
-
 same-length : tie.Need-same-length
 same-length c = search needs
 
 returns : tie.Need-returns
 returns c =
-    let p : tie.Start = search needs in
-    variable-argument (p .args .table .now) (p .args .at) (p .pre .1) (c .before .before .repeats-variable .result) (sym (c .before .before .before .before .before .before .kind .ensures) ∙ c .before .before .before .before .enum-told .given .1) (c .before .before .repeats-variable .ensures)
+    let p : tie.Start = search needs in variable-argument (p .args .table .now) (p .args .at) (p .pre .1) (c .before .before .repeats-variable .result) (sym (c .before .before .before .before .before .before .kind .ensures) ∙ c .before .before .before .before .enum-told .given .1) (c .before .before .repeats-variable .ensures)
 
 returns-2 : tie.Need-returns-2
 returns-2 c =
-    let p : tie.Start = search needs in
-    constant-argument (p .args .table .now) (p .args .at) (p .pre .1) (p .pre .0) (sym (c .before .before .kind .ensures) ∙ c .enum-told2 .given .1)
+    let p : tie.Start = search needs in constant-argument (p .args .table .now) (p .args .at) (p .pre .1) (p .pre .0) (sym (c .before .before .kind .ensures) ∙ c .enum-told2 .given .1)
 
 returns-3 : tie.Need-returns-3
-returns-3 c = no-argument _ _ _
+returns-3 c =
+    let p : tie.Start = search needs in pointer-argument (p .args .table .now) (p .args .at) (p .pre .1) (p .pre .0) (sym (c .before .before .before .before .kind .ensures) ∙ c .before .before .enum-told3 .given .1) (c .is-bad-target .ensures ∙ ap (badTarget (p .args .table .now)) (c .before .address .ensures))
 
 returns-4 : tie.Need-returns-4
-returns-4 c =
-    let p : tie.Start = search needs in
-    pointer-argument (p .args .table .now) (p .args .at) (p .pre .1) (p .pre .0) (sym (c .before .before .before .before .kind .ensures) ∙ c .before .before .enum-told4 .given .1)
-    (c .is-bad-target .ensures ∙ ap (λ b. badTarget Pointer b (p .args .table .now)) (c .before .address .ensures))
-
-returns-5 : tie.Need-returns-5
-returns-5 c = no-argument _ _ _
-
-returns-6 : tie.Need-returns-6
-returns-6 c = no-argument _ _ _
+returns-4 c = no-argument _ _ _
 
 pub is-sound-argument-spec : {M : Type 1} → statement M
 is-sound-argument-spec =
@@ -83,15 +63,10 @@ is-sound-argument-spec =
     repeats-variable-requires
     enum-told-2
     enum-told-3
-    enum-told-4
     address-requires
     is-bad-target-requires
-    enum-told-5
-    enum-told-6
     same-length
     returns
     returns-2
     returns-3
-    returns-4
-    returns-5
-    returns-6)
+    returns-4)

@@ -1,5 +1,8 @@
 -- `checker::sound::is_sound_count` meets its contract: by what the two tests read. Assumes nothing.
-use borrow.Author.Tests.{not-true, not-false}
+use mathlib.Core.List.{[], _∷_}
+use mathlib.Core.Path.{sym, _∙_}
+use Rattle.words.specs.declared.kind.Kind.the-variants.{Count}
+use Rattle.words.proofs.KindLaws.{told-others}
 use Rattle.checker.proofs.SoundLaws.{no-count, some-count}
 use borrow.Author.Needs.{needs}
 use Rattle.checker.proofs.sound.is_sound_count.Statement.{statement}
@@ -8,12 +11,8 @@ use Rattle.checker.proofs.sound.is_sound_count.Tie as tie
 kind-requires : tie.Need-kind-requires
 kind-requires c κs = search needs
 
-is-count-requires : tie.Need-is-count-requires
-is-count-requires c κs = search needs
-
-returns : tie.Need-returns
-returns c = let p : tie.Start = search needs in
-    no-count (p .args .word) (c .before .before .kind .ensures) (c .before .is-count .ensures) (not-true _ (c .if1 .taken))
+enum-told : tie.Need-enum-told
+enum-told c = search needs
 
 content-requires : tie.Need-content-requires
 content-requires c κs = search needs
@@ -21,17 +20,15 @@ content-requires c κs = search needs
 is-bad-kind-requires : tie.Need-is-bad-kind-requires
 is-bad-kind-requires c κs = search needs
 
+returns : tie.Need-returns
+returns c =
+    let p : tie.Start = search needs in some-count (p .args .word) (sym (c .before .before .before .before .kind .ensures) ∙ c .before .before .enum-told .given .1) (c .before .content .ensures) (c .is-bad-kind .ensures)
+
 returns-2 : tie.Need-returns-2
-returns-2 c = let p : tie.Start = search needs in
-    some-count (p .args .word) (c .before .before .before .before .kind .ensures) (c .before .before .before .is-count .ensures) (not-false _ (c .before .before .if1 .left)) (c .before .content .ensures) (c .is-bad-kind .ensures)
+returns-2 c =
+    let p : tie.Start = search needs in no-count (p .args .word) (λ e. told-others (Count ∷ []) (c .before .kind .result) (c .match .keys2) .0 (c .before .kind .ensures ∙ e))
 
 pub is-sound-count-spec : {M : Type 1} → statement M
 is-sound-count-spec =
     tie.close
-    (tie.spec
-    kind-requires
-    is-count-requires
-    returns
-    content-requires
-    is-bad-kind-requires
-    returns-2)
+    (tie.spec kind-requires enum-told content-requires is-bad-kind-requires returns returns-2)

@@ -1,10 +1,12 @@
--- `table::node::degree` meets its contract.
--- Assumes nothing.
-use mathlib.Core.Path.{sym, ap, refl, _∙_}
+-- `table::node::degree` meets its contract. Assumes nothing.
+use mathlib.Core.List.{[], _∷_}
+use mathlib.Core.Path.{sym, refl, _∙_}
 use native.Mathlib.Omega.{arith}
-use borrow.Author.Needs.{needs}
-use Rattle.table.specs.Table.{degree, functionKind}
+use Rattle.words.specs.declared.kind.Kind.the-variants.{Function}
+use Rattle.words.proofs.KindLaws.{told-others}
+use Rattle.table.specs.Table.{degree}
 use Rattle.table.proofs.Leaves.{picked, passed}
+use borrow.Author.Needs.{needs}
 use Rattle.table.proofs.node.degree.Statement.{statement}
 use Rattle.table.proofs.node.degree.Tie as tie
 
@@ -20,8 +22,8 @@ shared-slice-read-kind c = search needs
 kind-requires : tie.Need-kind-requires
 kind-requires c κs = search needs
 
-is-function-requires : tie.Need-is-function-requires
-is-function-requires c κs = search needs
+enum-told : tie.Need-enum-told
+enum-told c = search needs
 
 add-content : tie.Need-add-content
 add-content c = search needs
@@ -30,18 +32,18 @@ mul-content : tie.Need-mul-content
 mul-content c = search needs
 
 shared-slice-read-content : tie.Need-shared-slice-read-content
-shared-slice-read-content c = omega (arith, c .before .before .before .before .before .before .before .pre .0 (c .before .before .before .before .before .before .before .args .x .0) (sym (c .before .before .is-function .ensures ∙ ap functionKind (c .before .before .before .kind .ensures)) ∙ c .before .if1 .taken))
+shared-slice-read-content c = let p : tie.Start = search needs in omega (arith, p .pre .0 (p .args .x .0) (sym (c .before .before .before .kind .ensures) ∙ c .before .enum-told .given .1))
 
 content-requires : tie.Need-content-requires
 content-requires c κs = search needs
 
 returns : tie.Need-returns
 unfolding degree
-returns c = picked _ (c .before .before .before .is-function .ensures ∙ ap functionKind (c .before .before .before .before .kind .ensures)) (c .before .before .if1 .taken) (c .content .ensures)
+returns c = picked _ (c .before .before .before .before .kind .ensures) (c .before .before .enum-told .given .1) (c .content .ensures)
 
 returns-2 : tie.Need-returns-2
 unfolding degree
-returns-2 c = passed _ (c .before .is-function .ensures ∙ ap functionKind (c .before .before .kind .ensures)) (c .if1 .left) refl
+returns-2 c = passed _ (c .before .kind .ensures) (told-others (Function ∷ []) (c .before .kind .result) (c .match .keys2) .0) refl
 
 pub degree-spec : {M : Type 1} → statement M
 degree-spec =
@@ -51,7 +53,7 @@ degree-spec =
     mul-kind
     shared-slice-read-kind
     kind-requires
-    is-function-requires
+    enum-told
     add-content
     mul-content
     shared-slice-read-content
