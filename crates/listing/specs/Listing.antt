@@ -4,11 +4,9 @@ use mathlib.Core.Path.{_≡_}
 use mathlib.Core.List.{List, []}
 use Prim.Native.Nat.{ℕ, _*_, _<_}
 use lib.ListN.{length, getD}
+use Rattle.words.specs.Word.{sameKind}
 use Rattle.words.specs.declared.kind.Kind.{Kind}
-use Rattle.words.specs.declared.kind.Kind.the-variants.{Variable as VariableWord, Constant, Function, Pointer, Count, NoWord}
-use Rattle.words.specs.declared.numbers.Address.{Address}
-use Rattle.words.specs.declared.numbers.Label.{Label}
-use Rattle.table.specs.Table.{kindAt, contentAt}
+use Rattle.table.specs.Table.{choose, kindAt, contentAt}
 use Rattle.matcher.specs.Match.{MatchOf}
 use Rattle.matcher.specs.declared.answer.Matched.{Matched}
 use Rattle.jobfile.specs.File.{GoodFile, countIn, wordsIn, pairsIn}
@@ -39,13 +37,5 @@ pub record JobMatched (file : List ℕ) (k : ℕ) (class work : List ℕ) (answe
 -- ---- the variables
 
 -- "one line for each variable in address order: `v`, its address, label and class name": what is told of address x
-abbrev pub entryFor : Kind → Label → Address → Entry
-entryFor VariableWord label name = Variable label name
-entryFor Constant label name = Other
-entryFor Function label name = Other
-entryFor Pointer label name = Other
-entryFor Count label name = Other
-entryFor NoWord label name = Other
-
 abbrev pub entryAt : List ℕ → List ℕ → ℕ → Entry
-entryAt t class x = entryFor (kindAt t x) (record { 0 = contentAt t x }) (record { 0 = getD class x 0 })
+entryAt t class x = choose (sameKind (kindAt t x) Kind.Variable) (Variable (record { 0 = contentAt t x }) (record { 0 = getD class x 0 })) Other

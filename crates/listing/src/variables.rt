@@ -2,7 +2,7 @@
 ghost use mathlib.Core.Path.{_≡_};
 ghost use Prim.Native.Nat.{_<_};
 ghost use lib.ListN.{length};
-ghost use Rattle.listing.specs.Listing.{entryFor, entryAt};
+ghost use Rattle.listing.specs.Listing.{entryAt};
 use words::kind::Kind;
 use words::numbers::Address;
 use words::numbers::Label;
@@ -14,25 +14,15 @@ pub enum Entry {
     Other,
 }
 
-// By the kind of the word at an address.
-fn entry_for(kind: Kind, label: Label, name: Address) -> Entry
-    ensures { λ r. ⌜ r ≡ entryFor kind label name ⌝ }
-{
-    match kind {
-        Kind::Variable => Entry::Variable(label, name),
-        Kind::Constant => Entry::Other,
-        Kind::Function => Entry::Other,
-        Kind::Pointer => Entry::Other,
-        Kind::Count => Entry::Other,
-        Kind::NoWord => Entry::Other,
-    }
-}
-
 // Of address x, by its word and its entry in the class table.
 pub(crate) fn entry_at(table: &[u32], class: &[u16], x: usize) -> Entry
     requires { ⌜ (x < length (now table)) × (x < length (now class)) ⌝ }
     ensures { λ r. ⌜ r ≡ entryAt (now (table .entry)) (now (class .entry)) x ⌝ }
 {
     let word = table[x];
-    entry_for(word::kind(word), word::label(word), Address(class[x]))
+    if let Kind::Variable = word::kind(word) {
+        Entry::Variable(word::label(word), Address(class[x]))
+    } else {
+        Entry::Other
+    }
 }
