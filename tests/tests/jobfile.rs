@@ -308,7 +308,7 @@ impl Numbers {
 fn damaged_files() {
     let mut numbers = Numbers(1);
     let mut good = 0;
-    for _ in 0..20_000 {
+    for part in 0..20_000 {
         let jobs: Vec<Job> = (0..1 + numbers.below(6))
             .map(|_| {
                 let words = (0..numbers.below(4)).map(|_| numbers.below(1 << 21) as u32);
@@ -337,8 +337,17 @@ fn damaged_files() {
                 }
             }
         }
-        if answer(&file).0 == GOOD {
+        let (answer, place) = answer(&file);
+        if answer == GOOD {
             good += 1;
+        }
+        // the bodies, as a program reads and writes them: a process each
+        if part % 50 == 0 {
+            let written = again(&file);
+            match answer {
+                GOOD => assert_eq!(written, file),
+                _ => assert_eq!(written, format!("file {answer} {place}\n").as_bytes()),
+            }
         }
     }
     assert!((5_000..15_000).contains(&good), "{good} good files");

@@ -36,17 +36,6 @@ pub fn write16(bytes: &mut [u8], at: usize, x: u16)
     bytes[at + 1] = (x / 256 % 256) as u8;
 }
 
-// Puts a table word into the 4 bytes from place `at` on. The other bytes stay.
-pub fn write32(bytes: &mut [u8], at: usize, word: u32)
-    requires { ⌜ at + 4 ≤ length (now bytes) ⌝ }
-    ensures { λ _. ⌜ now (bytes .exit) ≡ placed at (bytesOf 4 word) (now (bytes .entry)) ⌝ }
-{
-    bytes[at] = (word % 256) as u8;
-    bytes[at + 1] = (word / 256 % 256) as u8;
-    bytes[at + 2] = (word / 65536 % 256) as u8;
-    bytes[at + 3] = (word / 16777216 % 256) as u8;
-}
-
 // Returns the byte at place `at`, wide enough to compute with. That it is below 256 is said too, so that no caller has
 // to show it.
 fn byte(bytes: &[u8], at: usize) -> u32

@@ -1,4 +1,4 @@
-// Rows of numbers of 16 bits: cleared and copied.
+// Rows of numbers of 16 bits: cleared.
 ghost use mathlib.Core.Path.{_≡_};
 ghost use Prim.Native.Nat.{_≤_};
 ghost use mathlib.Core.List.{_++_};
@@ -12,18 +12,6 @@ pub fn clear16(row: &mut [u16], n: usize)
     let mut i = 0;
     while i < n {
         row[i] = 0;
-        i += 1;
-    }
-}
-
-// Copies all of from over the front of into. The entries of into after them stay.
-pub fn copy16(from: &[u16], into: &mut [u16])
-    requires { ⌜ length (now from) ≤ length (now into) ⌝ }
-    ensures { λ _. ⌜ now (into .exit) ≡ now (from .entry) ++ drop (length (now (from .entry))) (now (into .entry)) ⌝ }
-{
-    let mut i = 0;
-    while i < from.len() {
-        into[i] = from[i];
         i += 1;
     }
 }

@@ -1,20 +1,8 @@
-// Rows of bytes: cleared and copied.
+// Rows of bytes: copied.
 ghost use mathlib.Core.Path.{_≡_};
 ghost use Prim.Native.Nat.{_≤_};
 ghost use mathlib.Core.List.{_++_};
-ghost use lib.ListN.{length, drop, replicate};
-
-// Sets the first n entries of row to 0. The entries after them stay.
-pub fn clear8(row: &mut [u8], n: usize)
-    requires { ⌜ n ≤ length (now row) ⌝ }
-    ensures { λ _. ⌜ now (row .exit) ≡ replicate n 0 ++ drop n (now (row .entry)) ⌝ }
-{
-    let mut i = 0;
-    while i < n {
-        row[i] = 0;
-        i += 1;
-    }
-}
+ghost use lib.ListN.{length, drop};
 
 // Copies all of from over the front of into. The entries of into after them stay.
 pub fn copy8(from: &[u8], into: &mut [u8])
