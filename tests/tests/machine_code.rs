@@ -75,22 +75,26 @@ fn a_call_through_a_register_is_seen() {
 
 /// A function that jumps by a table of two entries, of which the second is given.
 fn by_a_table(second: &str) -> Listing {
-    let code = "0000000000000000 <f>:
-   0:\tlea    0x0(%rip),%rsi\t0: R_X86_64_PC32\t.rodata.f-0x4
-   1:\tmovslq (%rsi,%rdi,4),%rax
-   2:\tadd    %rsi,%rax
-   3:\tjmp    *%rax
-   4:\tret
-   5:\tret
-";
+    jumps_after(&["movslq (%rsi,%rdi,4),%rax", "add %rsi,%rax"], second)
+}
+
+/// The same, with what stands between the table's address and the jump.
+fn jumps_after(between: &[&str], second: &str) -> Listing {
+    let address = "lea 0x0(%rip),%rsi\t0: R_X86_64_PC32\t.rodata.f-0x4";
+    let ends = ["jmp *%rax", "ret", "ret"];
+    let mut code = "0000000000000000 <f>:\n".to_string();
+    for (at, line) in [&[address], between, &ends].concat().iter().enumerate() {
+        code.push_str(&format!("   {at:x}:\t{line}\n"));
+    }
+    let first = between.len() + 2;
     let entries = format!(
         "RELOCATION RECORDS FOR [.rodata.f]:
 OFFSET           TYPE              VALUE
-0000000000000000 R_X86_64_PC32     .text.f+0x0000000000000004
+0000000000000000 R_X86_64_PC32     .text.f+0x{first:016x}
 0000000000000004 R_X86_64_PC32     {second}
 "
     );
-    Listing::of(code, &entries)
+    Listing::of(&code, &entries)
 }
 
 /// An entry counts from the table, and its relocation from the entry itself.
@@ -103,6 +107,30 @@ fn a_jump_by_a_table_stays_in_its_function() {
         let library = by_a_table(outside);
         assert_eq!(calls::through_a_register(&library), ["f: 3"]);
         assert!(stack::most(&library).is_err());
+    }
+}
+
+/// A copy into another register leaves the sum as it is; one into the jump's own, whole or in part, does not.
+#[test]
+fn what_stands_before_a_jump_by_a_table() {
+    let read = ["movslq (%rsi,%rdi,4),%rax", "add %rsi,%rax"];
+    let second = ".text.f+0x000000000000000a";
+    let copied = |copy| jumps_after(&[read[0], read[1], copy], second);
+    let library = copied("mov %rdi,%rdx");
+    assert_eq!(library.functions[0].tables, [[5, 6]]);
+    assert_eq!(calls::through_a_register(&library), Vec::<String>::new());
+    for other in [
+        "mov %rdi,%rax",
+        "mov %edi,%eax",
+        "mov %edi,%r8d",
+        "mov (%rdi),%rdx",
+        "inc %rax",
+    ] {
+        assert_eq!(
+            calls::through_a_register(&copied(other)),
+            ["f: 4"],
+            "{other}"
+        );
     }
 }
 

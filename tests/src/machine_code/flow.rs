@@ -67,14 +67,15 @@ pub fn leaves(function: &Function, instruction: &Instruction) -> Option<String> 
 }
 
 /// Whether a jump takes an entry of a table: one is read by its number, the table's own address is added,
-/// and the jump goes there.
+/// and the jump goes there. A copy into another register than the jump's may stand between.
 fn by_a_table(function: &Function, i: usize) -> bool {
-    let taken: Vec<&Instruction> = function.instructions[..=i].iter().rev().take(3).collect();
-    let (jump, add, read) = match taken[..] {
-        [jump, add, read] => (jump, add, read),
+    let target = function.instructions[i].operands[0].trim_start_matches('*');
+    let before = function.instructions[..i].iter().rev();
+    let mut taken = before.skip_while(|copy| fills_another(copy, target));
+    let (add, read) = match (taken.next(), taken.next()) {
+        (Some(add), Some(read)) => (add, read),
         _ => return false,
     };
-    let target = jump.operands[0].trim_start_matches('*');
     let table = match &add.operands[..] {
         [table, sum] if add.mnemonic == "add" && sum == target => table,
         _ => return false,
@@ -82,4 +83,11 @@ fn by_a_table(function: &Function, i: usize) -> bool {
     let entry = format!("({table},");
     read.mnemonic == "movslq"
         && matches!(&read.operands[..], [from, to] if from.starts_with(&entry) && to == target)
+}
+
+/// Whether an instruction copies a whole register into another one than this.
+fn fills_another(copy: &Instruction, register: &str) -> bool {
+    let whole = |name: &String| name.starts_with("%r") && !name.ends_with(['d', 'w', 'b']);
+    copy.mnemonic == "mov"
+        && matches!(&copy.operands[..], [from, to] if whole(from) && whole(to) && to != register)
 }
