@@ -1,7 +1,6 @@
 -- What the scans find, as answers by the rows.
 --
--- In order: a search and its row (`first-lowest`, `first-none`); the shape rows; where the row of items can break
--- (`break-within`). Assumes nothing.
+-- In order: the shape rows; where the row of items can break (`break-within`). Assumes nothing.
 use mathlib.Core.Path.{_≡_, refl, sym, _∙_}
 use mathlib.Core.Bool.{Bool, true, false}
 use mathlib.Core.Logic.{inl, inr}
@@ -11,65 +10,60 @@ use Prim.Native.Nat.{ℕ, suc, _+_, _≤_, _<_}
 use native.Mathlib.Omega.{arith}
 use lib.ListN.{length, drop, length-drop}
 use Rattle.words.specs.Word.{kindOf}
+use Rattle.answering.specs.declared.fault.TableFault.the-variants.{Word, Layout, Pointer}
+use Rattle.answering.specs.Answers.{First, NoneOf}
+use Rattle.answering.proofs.LowestLaws.{first-lowest, first-none}
+use Rattle.answering.proofs.Orders.{none-first}
 use Rattle.graphs.proofs.Classes.{never}
 use Rattle.table.specs.Layout.{Wanted, item, count, arguments, canStand, after, atEnd, breakFrom}
-use Rattle.table.specs.Answers.{Lowest, First}
-use Rattle.table.specs.Faults.{Job, badWord, badPointer, WORD, LAYOUT, POINTER, Fault, word-fault, layout-fault, pointer-fault, number}
+use Rattle.table.specs.Faults.{Job, sent, badWord, badPointer, WORD, LAYOUT, POINTER, Fault, word-fault, layout-fault, pointer-fault, number, shapeRows}
 use Rattle.table.specs.Shaped.{Shaped}
 use Rattle.table.proofs.Blocks.{break-stands, break-stops}
-use Rattle.checker.specs.declared.answer.Checked.the-variants.{Accepted, Word, Layout, Pointer}
-use Rattle.checker.specs.Stages.{ByRows, shapeRows}
-
--- ---- a search and its row
-
-pub first-lowest : {test : ℕ → Bool} {n r : ℕ} → First test n r → r < n → Lowest (λ b. (b < n) × (test b ≡ true)) r
-first-lowest {test} {n} {r} f h =
-    record { has = (h, f .passes h); none-below = λ j l p. let e : test j ≡ false = f .before j l in let t : test j ≡ true = p .1 in never (cc) }
-
-pub first-none : {test : ℕ → Bool} {n r : ℕ} → First test n r → n ≤ r → (b : ℕ) → (b < n) × (test b ≡ true) → ⊥
-first-none {test} {n} {r} f h b (l, t) = let e : test b ≡ false = f .before b (omega arith) in never (cc)
+use Rattle.checker.specs.declared.answer.Checked.the-variants.{Accepted, Refused}
+use Rattle.checker.specs.Stages.{ByRows}
 
 -- ---- the shape rows
 
+module _ {job : Job} where
+  no-word : {r : ℕ} → First (badWord (job .table)) (length (job .table)) r → length (job .table) ≤ r → (p : ℕ) → Fault job WORD p → ⊥
+  no-word f h p (word-fault l) = first-none f h p (l .has)
+
+  no-layout : breakFrom item 1 (drop 1 (job .table)) ≡ none → (p : ℕ) → Fault job LAYOUT p → ⊥
+  no-layout e p (layout-fault b) = never (cc)
+
+  no-pointer : {r : ℕ} → First (badPointer (job .table)) (length (job .table)) r → length (job .table) ≤ r → (p : ℕ) → Fault job POINTER p → ⊥
+  no-pointer f h p (pointer-fault l) = first-none f h p (l .has)
+
+  -- none of the rows applies to a table that is shaped
+  pub shaped-none : Shaped (job .table) → NoneOf (Fault job) shapeRows
+  shaped-none s = (word, (no-layout (s .whole), (pointer, tt)))
+    where
+      word : (p : ℕ) → Fault job WORD p → ⊥
+      word p (word-fault l) = s .words p (l .has .0) (l .has .1)
+
+      pointer : (p : ℕ) → Fault job POINTER p → ⊥
+      pointer p (pointer-fault l) = s .pointers p (l .has .0) (l .has .1)
+
 module _ {t : List ℕ} where
-  no-word : {r : ℕ} → First (badWord t) (length t) r → length t ≤ r → (list : List ℕ) (c w p : ℕ) → Fault (record { table = t; list = list; class-room = c; work-room = w }) WORD p → ⊥
-  no-word f h list c w p (word-fault l) = first-none f h p (l .has)
+  pub shaped-accepted : Shaped t → ByRows shapeRows t Accepted
+  shaped-accepted s list c w = none-first number (Fault (sent t list c w)) shapeRows [] 0 0 (shaped-none s) (refl, refl)
 
-  no-layout : breakFrom item 1 (drop 1 t) ≡ none → (list : List ℕ) (c w p : ℕ) → Fault (record { table = t; list = list; class-room = c; work-room = w }) LAYOUT p → ⊥
-  no-layout e list c w p (layout-fault b) = never (cc)
-
-  no-pointer : {r : ℕ} → First (badPointer t) (length t) r → length t ≤ r → (list : List ℕ) (c w p : ℕ) → Fault (record { table = t; list = list; class-room = c; work-room = w }) POINTER p → ⊥
-  no-pointer f h list c w p (pointer-fault l) = first-none f h p (l .has)
-
-  pub bad-word : {r : ℕ} → First (badWord t) (length t) r → r < length t → ByRows shapeRows t (Word (record { 0 = r }))
+  pub bad-word : {r : ℕ} → First (badWord t) (length t) r → r < length t → ByRows shapeRows t (Refused (Word (record { 0 = r })))
   unfolding number
   bad-word f h list c w = inl (refl, word-fault (first-lowest f h))
 
-  pub bad-layout : {r p : ℕ} → First (badWord t) (length t) r → length t ≤ r → breakFrom item 1 (drop 1 t) ≡ some p → ByRows shapeRows t (Layout (record { 0 = p }))
-  unfolding number
-  bad-layout f h e list c w = inr (no-word f h list c w, inl (refl, layout-fault e))
+  module _ {r : ℕ} (words : First (badWord t) (length t) r) (good : length t ≤ r) where
+    pub bad-layout : {p : ℕ} → breakFrom item 1 (drop 1 t) ≡ some p → ByRows shapeRows t (Refused (Layout (record { 0 = p })))
+    unfolding number
+    bad-layout e list c w = inr (no-word words good, inl (refl, layout-fault e))
 
-  pub bad-pointer : {r q : ℕ} → First (badWord t) (length t) r → length t ≤ r → breakFrom item 1 (drop 1 t) ≡ none → First (badPointer t) (length t) q → q < length t
-      → ByRows shapeRows t (Pointer (record { 0 = q }))
-  unfolding number
-  bad-pointer f h e g k list c w = inr (no-word f h list c w, inr (no-layout e list c w, inl (refl, pointer-fault (first-lowest g k))))
+    module _ {q : ℕ} (whole : breakFrom item 1 (drop 1 t) ≡ none) (pointers : First (badPointer t) (length t) q) where
+      pub bad-pointer : q < length t → ByRows shapeRows t (Refused (Pointer (record { 0 = q })))
+      unfolding number
+      bad-pointer h list c w = inr (no-word words good, inr (no-layout whole, inl (refl, pointer-fault (first-lowest pointers h))))
 
-  pub no-bad-shape : {r q : ℕ} → First (badWord t) (length t) r → length t ≤ r → breakFrom item 1 (drop 1 t) ≡ none → First (badPointer t) (length t) q → length t ≤ q
-      → ByRows shapeRows t Accepted
-  no-bad-shape f h e g k list c w = inr (no-word f h list c w, inr (no-layout e list c w, inr (no-pointer g k list c w, (refl, refl))))
-
--- none of the rows applies to a table that is shaped
-pub shaped-accepted : {t : List ℕ} → Shaped t → ByRows shapeRows t Accepted
-shaped-accepted {t} s list c w = inr (word, inr (no-layout (s .whole) list c w, inr (pointer, (refl, refl))))
-  where
-    job : Job
-    job = record { table = t; list = list; class-room = c; work-room = w }
-
-    word : (p : ℕ) → Fault job WORD p → ⊥
-    word p (word-fault l) = s .words p (l .has .0) (l .has .1)
-
-    pointer : (p : ℕ) → Fault job POINTER p → ⊥
-    pointer p (pointer-fault l) = s .pointers p (l .has .0) (l .has .1)
+      pub no-bad-shape : length t ≤ q → ByRows shapeRows t Accepted
+      no-bad-shape h list c w = inr (no-word words good, inr (no-layout whole, inr (no-pointer pointers h, (refl, refl))))
 
 -- ---- where the row of items can break
 

@@ -1,39 +1,18 @@
 -- What the stages of the check promise each other. For this crate alone. Assumes nothing.
 use mathlib.Core.Path.{_≡_}
-use mathlib.Core.Bool.{Bool, true, false}
 use mathlib.Core.List.{List, [], _∷_}
 use Prim.Native.Nat.{ℕ, zero, suc, _*_, _≤_, _<_}
 use lib.ListN.{length, drop}
-use Rattle.table.specs.Answers.{Answered}
-use Rattle.table.specs.Faults.{Row, WORD, LAYOUT, POINTER, NAME, LOOP, Fault, number}
+use Rattle.answering.specs.Answers.{Answered}
+use Rattle.table.specs.Faults.{sent, Row, Fault, number}
 use Rattle.checker.specs.declared.answer.Checked.{Checked}
-use Rattle.checker.specs.declared.answer.Checked.the-variants.{Accepted, Size, Room, Word, Layout, Pointer, Name, Loop}
 use Rattle.checker.specs.Check.{numberOf, placeOf}
 
 -- Rows that speak of the table alone answer so, whatever the list and the room.
 abbrev pub ByRows : List Row → List ℕ → Checked → Type 0
 ByRows rows t answer =
     (list : List ℕ) (class-room work-room : ℕ)
-    → Answered number (Fault (record { table = t; list = list; class-room = class-room; work-room = work-room })) rows (numberOf answer) (placeOf answer)
-
-abbrev pub shapeRows : List Row
-shapeRows = WORD ∷ LAYOUT ∷ POINTER ∷ []
-
-abbrev pub loopRows : List Row
-loopRows = LOOP ∷ []
-
-abbrev pub nameRows : List Row
-nameRows = NAME ∷ loopRows
-
-abbrev pub passes : Checked → Bool
-passes Accepted = true
-passes Size = false
-passes Room = false
-passes (Word a) = false
-passes (Layout a) = false
-passes (Pointer a) = false
-passes (Name a) = false
-passes Loop = false
+    → Answered number (Fault (sent t list class-room work-room)) rows (numberOf answer) (placeOf answer)
 
 -- 0, 1, 2, .. : so many numbers from one on
 abbrev pub counting : ℕ → ℕ → List ℕ

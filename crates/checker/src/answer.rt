@@ -1,32 +1,31 @@
 // The answers of the table check.
 ghost use mathlib.Core.Path.{_≡_};
-ghost use Rattle.checker.specs.Stages.{passes};
-use words::numbers::Address;
+ghost use Rattle.checker.specs.Check.{numberOf, placeOf};
+use answering::fault;
+use answering::fault::TableFault;
 
-// One case for each number from 0 to 7; those whose place is an address carry it.
+// A table is accepted, or refused for what is wrong with it.
 pub enum Checked {
     Accepted,
-    Size,
-    Room,
-    Word(Address),
-    Layout(Address),
-    Pointer(Address),
-    Name(Address),
-    Loop,
+    Refused(TableFault),
 }
 
-// Whether the answer is 0.
-pub(crate) fn is_accepted(answer: Checked) -> bool
-    ensures { λ r. ⌜ r ≡ passes answer ⌝ }
+// The answer, 0 to 7.
+pub fn number(answer: Checked) -> u16
+    ensures { λ r. ⌜ r ≡ numberOf answer ⌝ }
 {
     match answer {
-        Checked::Accepted => true,
-        Checked::Size => false,
-        Checked::Room => false,
-        Checked::Word(_) => false,
-        Checked::Layout(_) => false,
-        Checked::Pointer(_) => false,
-        Checked::Name(_) => false,
-        Checked::Loop => false,
+        Checked::Accepted => 0,
+        Checked::Refused(wrong) => fault::number(wrong),
+    }
+}
+
+// The place: an address, or 0.
+pub fn place(answer: Checked) -> u16
+    ensures { λ r. ⌜ r ≡ placeOf answer ⌝ }
+{
+    match answer {
+        Checked::Accepted => 0,
+        Checked::Refused(wrong) => fault::place(wrong),
     }
 }

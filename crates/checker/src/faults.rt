@@ -1,26 +1,25 @@
 // The answers from 3 on, for a table of an allowed size with room for it.
-ghost use mathlib.Core.List.{_++_};
-ghost use Rattle.checker.specs.Stages.{shapeRows, nameRows, Roomy, Stage};
-use crate::answer;
+ghost use Rattle.table.specs.Faults.{tableRows};
+ghost use Rattle.checker.specs.Stages.{Roomy, Stage};
 use crate::answer::Checked;
 use crate::loops;
 use crate::name_fault;
 use crate::shape_fault;
 use crate::sound;
+use answering::fault::TableFault;
 use words::numbers::Address;
 
 // The answer by the rows from 3 to 7, gone through row after row.
 fn through_all_rows(table: &[u32], class: &mut [u16], work: &mut [u16]) -> Checked
     requires { ⌜ Roomy (now table) (now class) (now work) ⌝ }
-    ensures { λ r. ⌜ Stage (shapeRows ++ nameRows) (now (table .entry)) (now (class .entry)) (now (work .entry)) r (now (class .exit)) (now (work .exit)) ⌝ }
+    ensures { λ r. ⌜ Stage tableRows (now (table .entry)) (now (class .entry)) (now (work .entry)) r (now (class .exit)) (now (work .exit)) ⌝ }
 {
-    let shape = shape_fault::row_by_row(table);
-    if !answer::is_accepted(shape) {
-        return shape;
+    if let Checked::Refused(wrong) = shape_fault::row_by_row(table) {
+        return Checked::Refused(wrong);
     }
     let name = name_fault::first_repeated_name(table, work);
     if name < table.len() {
-        return Checked::Name(Address(name as u16));
+        return Checked::Refused(TableFault::Name(Address(name as u16)));
     }
     loops::loops_alone(table, class, work)
 }
@@ -30,7 +29,7 @@ fn through_all_rows(table: &[u32], class: &mut [u16], work: &mut [u16]) -> Check
 // written over.
 pub(crate) fn faults(table: &[u32], class: &mut [u16], work: &mut [u16]) -> Checked
     requires { ⌜ Roomy (now table) (now class) (now work) ⌝ }
-    ensures { λ r. ⌜ Stage (shapeRows ++ nameRows) (now (table .entry)) (now (class .entry)) (now (work .entry)) r (now (class .exit)) (now (work .exit)) ⌝ }
+    ensures { λ r. ⌜ Stage tableRows (now (table .entry)) (now (class .entry)) (now (work .entry)) r (now (class .exit)) (now (work .exit)) ⌝ }
 {
     if sound::is_sound(table, work) {
         return loops::loops_alone(table, class, work);

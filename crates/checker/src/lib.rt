@@ -13,6 +13,7 @@ mod sound;
 
 ghost use Rattle.checker.specs.Check.{CheckOf};
 use answer::Checked;
+use answering::fault::TableFault;
 
 // A table has at most so many words.
 const MOST_WORDS: usize = 4096;
@@ -26,16 +27,16 @@ pub fn check(table: &[u32], class: &mut [u16], work: &mut [u16]) -> Checked
 {
     let n = table.len();
     if n == 0 {
-        return Checked::Size;
+        return Checked::Refused(TableFault::Size);
     }
     if MOST_WORDS < n {
-        return Checked::Size;
+        return Checked::Refused(TableFault::Size);
     }
     if class.len() < n {
-        return Checked::Room;
+        return Checked::Refused(TableFault::Room);
     }
     if work.len() < 4 * n {
-        return Checked::Room;
+        return Checked::Refused(TableFault::Room);
     }
     let answer = faults::faults(table, class, work);
     rows::clear16(class, n);

@@ -1,11 +1,13 @@
 // Answer 7, LOOP: "some node reaches itself". A loop is a cycle where each node is its own class.
 ghost use mathlib.Core.Path.{_≡_};
-ghost use mathlib.Core.List.{_++_};
+ghost use mathlib.Core.List.{[], _∷_, _++_};
 ghost use Prim.Native.Nat.{_≤_};
 ghost use lib.ListN.{length, drop};
+ghost use Rattle.table.specs.Faults.{LOOP};
 ghost use Rattle.table.specs.Shaped.{Shaped};
-ghost use Rattle.checker.specs.Stages.{loopRows, counting, Roomy, Stage};
+ghost use Rattle.checker.specs.Stages.{counting, Roomy, Stage};
 use crate::answer::Checked;
+use answering::fault::TableFault;
 
 // Each of the first n addresses becomes its own class.
 fn own_classes(class: &mut [u16], n: usize)
@@ -22,11 +24,11 @@ fn own_classes(class: &mut [u16], n: usize)
 // The answer by row 7, for a table whose shape is sound.
 pub(crate) fn loops_alone(table: &[u32], class: &mut [u16], work: &mut [u16]) -> Checked
     requires { ⌜ Roomy (now table) (now class) (now work) × Shaped (now table) ⌝ }
-    ensures { λ r. ⌜ Stage loopRows (now (table .entry)) (now (class .entry)) (now (work .entry)) r (now (class .exit)) (now (work .exit)) ⌝ }
+    ensures { λ r. ⌜ Stage (LOOP ∷ []) (now (table .entry)) (now (class .entry)) (now (work .entry)) r (now (class .exit)) (now (work .exit)) ⌝ }
 {
     own_classes(class, table.len());
     if cycles::reaches_itself(table, class, work) {
-        return Checked::Loop;
+        return Checked::Refused(TableFault::Loop);
     }
     Checked::Accepted
 }

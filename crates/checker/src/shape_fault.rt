@@ -1,8 +1,10 @@
 // The answers 3, 4 and 5: words, layout and pointers.
 ghost use Prim.Native.Nat.{_≤_};
 ghost use lib.ListN.{length};
-ghost use Rattle.checker.specs.Stages.{ByRows, shapeRows};
+ghost use Rattle.table.specs.Faults.{shapeRows};
+ghost use Rattle.checker.specs.Stages.{ByRows};
 use crate::answer::Checked;
+use answering::fault::TableFault;
 use shape::layout_fault;
 use shape::layout_fault::RowOfItems;
 use shape::pointer_fault;
@@ -16,14 +18,14 @@ pub(crate) fn row_by_row(table: &[u32]) -> Checked
 {
     let word = word_fault::first_bad_word(table);
     if word < table.len() {
-        return Checked::Word(Address(word as u16));
+        return Checked::Refused(TableFault::Word(Address(word as u16)));
     }
     if let RowOfItems::BreaksAt(at) = layout_fault::layout_break(table) {
-        return Checked::Layout(Address(at as u16));
+        return Checked::Refused(TableFault::Layout(Address(at as u16)));
     }
     let pointer = pointer_fault::first_bad_pointer(table);
     if pointer < table.len() {
-        return Checked::Pointer(Address(pointer as u16));
+        return Checked::Refused(TableFault::Pointer(Address(pointer as u16)));
     }
     Checked::Accepted
 }

@@ -11,10 +11,10 @@ use native.Mathlib.Omega.{arith}
 use lib.ListN.{length, getD, set, take}
 use lib.Seq.{take-length}
 use Rattle.graphs.specs.Graph.{Node}
-use Rattle.graphs.specs.Partition.{Pair, _∈_, Sides, Same, paired, Clash}
+use Rattle.graphs.specs.Partition.{Pair, pairsOf, _∈_, Sides, Same, paired, Clash}
 use Rattle.graphs.proofs.Classes.{same-grows, first-pairs-grow}
 use Rattle.table.specs.Table.{graphOf}
-use Rattle.table.specs.Faults.{pairsOf, pairAt}
+use Rattle.table.specs.Faults.{pairAt}
 use Rattle.table.proofs.Pairs.{pairAt-entries}
 use Rattle.classes.specs.Steps.Forest.{Forest}
 use Rattle.classes.specs.Steps.Meeting.{PassedCheck, State, Within, Agrees, Complete, Settled}

@@ -8,10 +8,9 @@ use native.Mathlib.Omega.{arith}
 use lib.ListN.{length, take, take-append-drop}
 use lib.Seq.{take-length}
 use Rattle.rows.proofs.Laws.{equations-agree}
-use Rattle.graphs.specs.Partition.{Pair, Clash}
+use Rattle.graphs.specs.Partition.{Pair, pairsOf, Clash}
 use Rattle.graphs.proofs.Classes.{class-table-only, clash-grows, first-pairs-grow}
 use Rattle.table.specs.Table.{graphOf}
-use Rattle.table.specs.Faults.{pairsOf}
 use Rattle.classes.specs.Joining.{CanJoin, AllJoined, ClashAtPair, ByOutcome, JoinOf}
 use Rattle.classes.specs.declared.joining.Joined.{Joined}
 

@@ -6,9 +6,8 @@ use Prim.Native.Nat.{ℕ, _+_, _*_, _≤_, _<_}
 use lib.ListN.{length, take, drop, replicate}
 use lib.Seq.{take-all}
 use Rattle.words.specs.declared.numbers.PairNumber.{PairNumber}
-use Rattle.graphs.specs.Partition.{Pair, Sides, Clash, ClassTable}
+use Rattle.graphs.specs.Partition.{Pair, pairsOf, Sides, Clash, ClassTable}
 use Rattle.table.specs.Table.{graphOf}
-use Rattle.table.specs.Faults.{pairsOf}
 use Rattle.classes.specs.Steps.Forest.{Forest, Flattened}
 use Rattle.classes.specs.Steps.Meeting.{PassedCheck, State}
 use Rattle.classes.specs.Steps.Lists.{Holding, JoinedBefore, ClashesAt, EachJoined}

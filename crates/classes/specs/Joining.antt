@@ -4,9 +4,8 @@ use mathlib.Core.List.{List, _++_}
 use Prim.Native.Nat.{ℕ, _+_, _*_, _≤_, _<_}
 use lib.ListN.{length, take, drop, replicate}
 use Rattle.graphs.specs.Graph.{WellFormed}
-use Rattle.graphs.specs.Partition.{Pair, Sides, Clash, ClassTable}
+use Rattle.graphs.specs.Partition.{Pair, pairsOf, Sides, Clash, ClassTable}
 use Rattle.table.specs.Table.{graphOf}
-use Rattle.table.specs.Faults.{pairsOf}
 use Rattle.table.specs.Shaped.{Shaped}
 use Rattle.classes.specs.declared.joining.Joined.{Joined}
 

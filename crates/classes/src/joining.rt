@@ -1,8 +1,7 @@
 // A row of pairs joined, one after the other.
 ghost use lib.ListN.{length};
 ghost use Rattle.graphs.specs.Graph.{Node};
-ghost use Rattle.graphs.specs.Partition.{Sides};
-ghost use Rattle.table.specs.Faults.{pairsOf};
+ghost use Rattle.graphs.specs.Partition.{pairsOf, Sides};
 ghost use Rattle.table.specs.Table.{graphOf};
 ghost use Rattle.classes.specs.Joining.{CanJoin, JoinOf};
 ghost use Rattle.classes.specs.Steps.Lists.{JoinsPair, EachJoined};

@@ -12,11 +12,11 @@ use Prim.Native.Nat.{ℕ, _+_, _*_, _≤_}
 use lib.ListN.{length, getD, take, drop, replicate}
 use Rattle.rows.specs.LittleEndian.{AllBytes}
 use Rattle.graphs.specs.Graph.{variable}
-use Rattle.graphs.specs.Partition.{ClassTable, joins}
+use Rattle.graphs.specs.Partition.{pairsOf, ClassTable, joins}
 use Rattle.graphs.specs.Term.{Replacement, _then_, Unifies, answer}
 use Rattle.table.specs.Table.{TableSymbols, graphOf}
-use Rattle.table.specs.Answers.{Answered}
-use Rattle.table.specs.Faults.{pairsOf, Fault, number, checkOrder, matchOrder}
+use Rattle.answering.specs.Answers.{Answered}
+use Rattle.table.specs.Faults.{Fault, number, checkOrder, matchOrder}
 use Rattle.checker.specs.declared.answer.Checked.{Checked}
 use Rattle.checker.specs.Check.{CheckOf, numberOf as checkNumber, placeOf as checkPlace, jobOf as checkedJob}
 use Rattle.matcher.specs.declared.answer.Matched.{Matched}

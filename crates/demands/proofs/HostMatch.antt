@@ -4,45 +4,35 @@
 -- of that match (`told`); the host call as a match on buffers of n and of 4n zeros (`as-match`); what the room then holds.
 -- Assumes nothing.
 use mathlib.Core.Path.{_≡_, refl, sym, ap, ap₂, _∙_, subst}
-use mathlib.Core.Bool.{Bool, true, false, not, _||_}
+use mathlib.Core.Bool.{false}
 use mathlib.Core.Logic.{_⊎_, inl, inr, ⊎-elim, _↔_}
-use mathlib.Core.List.{List, [], _∷_, _++_, append-nil}
-use Prim.Native.Nat.{ℕ, _*_, _≤_}
+use mathlib.Core.List.{List, _++_, append-nil, map}
+use Prim.Native.Nat.{ℕ, _*_}
 use native.Mathlib.Omega.{arith}
-use lib.Dec.{eqb}
 use lib.ListN.{length, take, drop, replicate, length-replicate, drop-of-length-le}
 use lib.Seq.{take-all}
+use Rattle.answering.specs.Answers.{Answered}
+use Rattle.answering.specs.Buffers.{changesNothing, left}
+use Rattle.answering.proofs.Orders.{rest-answers, none-both, none-parts}
+use Rattle.answering.proofs.BufferLaws.{left-zeroed}
 use Rattle.graphs.specs.Graph.{variable}
-use Rattle.graphs.specs.Log.{_and_}
+use Rattle.graphs.specs.Partition.{pairsOf}
 use Rattle.graphs.specs.Term.{Replacement, _then_, Unifies, answer}
-use Rattle.graphs.proofs.Classes.{never}
-use Rattle.graphs.proofs.Replay.{both-true}
 use Rattle.table.specs.Table.{TableSymbols, graphOf}
-use Rattle.table.specs.Answers.{Answered}
-use Rattle.table.specs.Faults.{Job, pairsOf, WORD, LAYOUT, POINTER, NAME, LOOP, LIST, ADDRESS, CLASH, CYCLE, Fault, number as matchNumber, checkOrder, matchOrder}
+use Rattle.table.specs.Faults.{Job, sent, Fault, number as matchNumber, sizeRows, tableRows, listRows, pairRows, matchOrder}
 use Rattle.matcher.specs.declared.answer.Matched.{Matched}
 use Rattle.matcher.specs.declared.answer.Matched.the-variants.{Accepted, Clash as ClashAt, Cycle as CycleAt}
-use Rattle.matcher.specs.Match.{numberOf, placeOf, joinsOf, cleared, MatchOf, Passes, jobOf as lentJob}
+use Rattle.matcher.specs.Match.{numberOf, placeOf, joinsOf, MatchOf, Passes, jobOf as lentJob}
 use Rattle.matcher.specs.Demands.{Met, FirstUnmet}
-use Rattle.matcher.proofs.Verdicts.{side-low, clear-first}
+use Rattle.matcher.proofs.Verdicts.{behind-nine}
 use Rattle.matcher.proofs.Demands.{accepted-exactly, answer-makes-equal, answer-most-general-of-list, refused-at-first}
 use Rattle.jobfile.specs.File.{bodyIn}
-use Rattle.jobfile.specs.Faults.{number as fileNumber}
+use Rattle.jobfile.specs.Faults.{readOrder}
 use Rattle.jobfile.proofs.NumberLaws.{length-rowIn}
-use Rattle.host.specs.Host.{entryOf, wordsOf, tableOf, listOf, jobOf, Row, of-match, number, HostFault, match-fault, earlyOrder, hostOrder, HostOf}
+use Rattle.host.specs.Host.{entryOf, wordsOf, tableOf, listOf, jobOf, of-file, of-match, number, HostFault, size-fault, callRows, earlyOrder, hostOrder, HostOf}
+use Rattle.host.proofs.ChoiceLaws.{to-match, none-of-match}
+use Rattle.host.proofs.JobLaws.{sizes-pass}
 use Rattle.demands.specs.HostPasses.{HostPasses}
-use Rattle.demands.proofs.Buffers.{cleared-late}
-
--- the rows of an order have neither 10 nor 11
-unfoldable checks : List Row → Bool
-checks [] = true
-checks (row ∷ rows) = not (eqb (number row) 10 || eqb (number row) 11) and checks rows
-
-neither : (n : ℕ) → not (eqb n 10 || eqb n 11) ≡ true → (n ≡ 10 → ⊥) × (n ≡ 11 → ⊥)
-neither n t = (
-  λ e. let u : false ≡ true = subst (λ (m : ℕ). not (eqb m 10 || eqb m 11) ≡ true) e t in never (cc),
-  λ e. let u : false ≡ true = subst (λ (m : ℕ). not (eqb m 10 || eqb m 11) ≡ true) e t in never (cc),
-)
 
 module _ {bytes : List ℕ} {job : ℕ} {room : List ℕ} (passes : HostPasses bytes job room) where
   abbrev table : List ℕ
@@ -50,28 +40,18 @@ module _ {bytes : List ℕ} {job : ℕ} {room : List ℕ} (passes : HostPasses b
 
   -- ---- the rows that the host call passes over
 
-  passed-over : (rows rest : List Row) (a p : ℕ) → checks rows ≡ true → Answered number (HostFault bytes job room) (rows ++ rest) a p
-      → Answered number (HostFault bytes job room) rest a p
-  unfolding checks
-  passed-over [] rest a p t x = x
-  passed-over (row ∷ rows) rest a p t (inl (e, f)) = absurd (passes row p (neither (number row) (both-true t .0) .0) (neither (number row) (both-true t .0) .1) f)
-  passed-over (row ∷ rows) rest a p t (inr (none-applies, later)) = passed-over rows rest a p (both-true t .1) later
-
-  abbrev checkRows : List Row
-  checkRows = earlyOrder ++ (of-match WORD ∷ of-match LAYOUT ∷ of-match POINTER ∷ of-match NAME ∷ of-match LOOP ∷ of-match LIST ∷ of-match ADDRESS ∷ [])
-
-  late : {a p : ℕ} → Answered number (HostFault bytes job room) hostOrder a p → Answered number (HostFault bytes job room) (of-match CLASH ∷ of-match CYCLE ∷ []) a p
-  unfolding checks number fileNumber matchNumber _and_
-  late {a} {p} x = passed-over checkRows (of-match CLASH ∷ of-match CYCLE ∷ []) a p refl x
+  late : (a p : ℕ) → Answered number (HostFault bytes job room) hostOrder a p → Answered matchNumber (Fault (jobOf bytes job)) pairRows a p
+  late a p x =
+      to-match bytes job room pairRows a p refl
+      (rest-answers number (HostFault bytes job room) (earlyOrder ++ map of-match (tableRows ++ listRows)) (map of-match pairRows) a p passes x)
 
   -- ---- its job passes the checks of a match
 
   passes-match : Passes (jobOf bytes job)
-  unfolding number
-  passes-match row place low f = passes (of-match row) place (λ e. omega arith) (λ e. omega arith) (match-fault f)
-
-  all-over : {a p : ℕ} → Answered matchNumber (Fault (jobOf bytes job)) (CLASH ∷ CYCLE ∷ []) a p → Answered matchNumber (Fault (jobOf bytes job)) matchOrder a p
-  all-over {a} {p} x = clear-first passes-match (checkOrder ++ (LIST ∷ ADDRESS ∷ [])) (CLASH ∷ CYCLE ∷ []) a p side-low x
+  passes-match =
+      let parts = none-parts (HostFault bytes job room) earlyOrder (map of-match (tableRows ++ listRows)) passes in
+      let call = none-parts (HostFault bytes job room) (map of-file readOrder) callRows (parts .0) .1 in
+      none-both (Fault (jobOf bytes job)) sizeRows (tableRows ++ listRows) (sizes-pass bytes job (λ x. call .1 .0 0 (size-fault x))) (none-of-match bytes job room (tableRows ++ listRows) refl (parts .1))
 
   -- ---- the answer of that match
 
@@ -81,34 +61,34 @@ module _ {bytes : List ℕ} {job : ℕ} {room : List ℕ} (passes : HostPasses b
     number-is : numberOf r ≡ a
     place-is : placeOf r ≡ p
     joins-is : joinsOf r ≡ j
-    which : (a ≡ 0) ⊎ (10 ≤ a)
+    late-is : changesNothing (numberOf r) ≡ false
     answered : Answered matchNumber (Fault (jobOf bytes job)) matchOrder a p
 
-  told : {a p j : ℕ} → ((a ≡ 0 → ⊥) → j ≡ 0) → Answered number (HostFault bytes job room) (of-match CLASH ∷ of-match CYCLE ∷ []) a p → Told a p j
-  unfolding number matchNumber
-  told {a} {p} {j} zero-joins (inl (e, match-fault f)) = record {
+  told : {a p j : ℕ} → ((a ≡ 0 → ⊥) → j ≡ 0) → Answered matchNumber (Fault (jobOf bytes job)) pairRows a p → Told a p j
+  unfolding matchNumber changesNothing
+  told {a} {p} {j} zero-joins (inl (e, f)) = record {
     r = ClashAt (record { 0 = p });
     number-is = sym e;
     place-is = refl;
     joins-is = sym (zero-joins (λ z. omega arith));
-    which = inr (omega arith);
-    answered = all-over (inl (e, f));
+    late-is = refl;
+    answered = behind-nine passes-match a p (inl (e, f));
   }
-  told {a} {p} {j} zero-joins (inr (no-clash, inl (e, match-fault f))) = record {
+  told {a} {p} {j} zero-joins (inr (no-clash, inl (e, f))) = record {
     r = CycleAt (record { 0 = p });
     number-is = sym e;
     place-is = refl;
     joins-is = sym (zero-joins (λ z. omega arith));
-    which = inr (omega arith);
-    answered = all-over (inr (λ q f. no-clash q (match-fault f), inl (e, f)));
+    late-is = refl;
+    answered = behind-nine passes-match a p (inr (no-clash, inl (e, f)));
   }
   told {a} {p} {j} zero-joins (inr (no-clash, inr (no-cycle, (z, e)))) = record {
-    r = Accepted j;
+    r = Accepted (record { joins = j });
     number-is = sym z;
     place-is = sym e;
     joins-is = refl;
-    which = inl z;
-    answered = all-over (inr (λ q f. no-clash q (match-fault f), inr (λ q f. no-cycle q (match-fault f), (z, e))));
+    late-is = refl;
+    answered = behind-nine passes-match a p (inr (no-clash, inr (no-cycle, (z, e))));
   }
 
   -- ---- the host call as a match
@@ -122,25 +102,19 @@ module _ {bytes : List ℕ} {job : ℕ} {room : List ℕ} (passes : HostPasses b
   long : length table ≡ wordsOf bytes job
   long = length-rowIn 4 (wordsOf bytes job) (bodyIn bytes (entryOf job))
 
-  abbrev lent : ℕ → ℕ → Job
-  lent c w = record { table = table; list = listOf bytes job; class-room = c; work-room = w }
-
   same-job : lentJob table (listOf bytes job) class work ≡ jobOf bytes job
-  same-job = ap₂ lent (length-replicate {A = ℕ} (wordsOf bytes job) 0) (length-replicate {A = ℕ} (4 * wordsOf bytes job) 0)
+  same-job = ap₂ (sent table (listOf bytes job)) (length-replicate {A = ℕ} (wordsOf bytes job) 0) (length-replicate {A = ℕ} (4 * wordsOf bytes job) 0)
 
   module _ {a : ℕ} {room-after : List ℕ} (h : HostOf bytes job room a room-after) where
     as-told : Told a (h .place) (h .joined)
-    as-told = told (λ refused. h .refused refused .0) (late (h .answered))
+    as-told = told (λ refused. h .refused refused .0) (late a (h .place) (h .answered))
 
     abbrev matched : Matched
     matched = as-told .r
 
-    not-early : (k : ℕ) → 1 ≤ k → k ≤ 2 → numberOf matched ≡ k → ⊥
-    not-early k from to e = ⊎-elim (λ z. omega (arith, e, as-told .number-is)) (λ l. omega (arith, e, as-told .number-is)) (as-told .which)
-
-    left-zero : (n m : ℕ) → n ≡ m → cleared (numberOf matched) n (replicate m 0) ≡ replicate m 0
+    left-zero : (n m : ℕ) → n ≡ m → left (numberOf matched) n (replicate m 0) ≡ replicate m 0
     left-zero n m e =
-        cleared-late n (replicate m 0) (numberOf matched) (not-early 1 (omega arith) (omega arith)) (not-early 2 (omega arith) (omega arith))
+        left-zeroed (numberOf matched) n (replicate m 0) (as-told .late-is)
         ∙ ap (λ (k : ℕ). replicate k 0 ++ drop k (replicate m 0)) e
         ∙ ap (λ (l : List ℕ). replicate m 0 ++ l) (drop-of-length-le (replicate m 0) {i = m} (omega (arith, length-replicate {A = ℕ} m 0)))
         ∙ append-nil (replicate m 0)

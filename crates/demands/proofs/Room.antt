@@ -2,24 +2,25 @@
 -- zeros of a refusal (`room-zero`), the class table of an accepted list (`room-bound`); and that it keeps its length (`room-length`). Assumes nothing.
 use mathlib.Core.Path.{_≡_, refl, sym, ap, ap₂, _∙_}
 use mathlib.Core.Bool.{Bool, true, false, cond}
-use mathlib.Core.Logic.{inl, inr}
-use mathlib.Core.List.{List, [], _∷_, _++_}
+use mathlib.Core.Logic.{_⊎_, inl, inr}
+use mathlib.Core.List.{List, _++_, map}
 use Prim.Native.Nat.{ℕ, _+_, _*_, _≤_}
 use native.Mathlib.Decide.{ℕ-discrete}
 use native.Mathlib.Omega.{arith}
 use lib.ListN.{length, drop, replicate, length-append, length-replicate}
 use Rattle.rows.proofs.Laws.{length-bytesOf}
-use Rattle.graphs.specs.Partition.{ClassTable, joins}
+use Rattle.answering.specs.Answers.{Answered, NoneOf}
+use Rattle.answering.proofs.Orders.{passed-none, answered-parts, none-parts}
+use Rattle.graphs.specs.Partition.{pairsOf, ClassTable, joins}
 use Rattle.graphs.proofs.Classes.{never}
 use Rattle.table.specs.Table.{graphOf}
-use Rattle.table.specs.Answers.{Answered}
-use Rattle.table.specs.Faults.{pairsOf}
+use Rattle.table.specs.Faults.{number as matchNumber}
 use Rattle.matcher.proofs.Verdicts.{at-most}
 use Rattle.jobfile.specs.File.{bodyIn}
-use Rattle.jobfile.specs.Faults.{number as fileNumber}
+use Rattle.jobfile.specs.Faults.{number as fileNumber, readOrder}
 use Rattle.jobfile.proofs.NumberLaws.{length-bytesOfRow, length-rowIn}
-use Rattle.host.specs.Host.{entryOf, wordsOf, tableOf, listOf, Row, number, HostFault, room-fault, hostOrder, reportOf, writesNothing, roomAfter, HostOf}
-use Rattle.host.proofs.ChoiceLaws.{host-positive}
+use Rattle.host.specs.Host.{entryOf, wordsOf, tableOf, listOf, of-file, number, HostFault, room-fault, callRows, earlyOrder, lateOrder, hostOrder, reportOf, writesNothing, roomAfter, HostOf}
+use Rattle.host.proofs.ChoiceLaws.{early-silent}
 use Rattle.demands.proofs.Lengths.{front-length}
 
 length-report : (a p j : ℕ) (classes : List ℕ) → length (reportOf a p j classes) ≡ 6 + 2 * length classes
@@ -44,42 +45,30 @@ module _ {bytes : List ℕ} {job : ℕ} {room : List ℕ} {a : ℕ} {room-after 
       ∙ ap₂ (λ (j : ℕ) (l : List ℕ). reportOf a (h .place) j l ++ drop (6 + 2 * length l) room) (h .refused refused .0) (h .refused refused .1)
       ∙ ap (λ (n : ℕ). reportOf a (h .place) 0 (replicate (wordsOf bytes job) 0) ++ drop (6 + 2 * n) room) (length-replicate {A = ℕ} (wordsOf bytes job) 0)
 
-  -- what is accepted has place 0
-  accepted-place : (rows : List Row) (p : ℕ) → a ≡ 0 → Answered number (HostFault bytes job room) rows a p → p ≡ 0
-  accepted-place [] p z x = x .1
-  accepted-place (row ∷ rows) p z (inl (e, f)) = absurd (host-positive row (sym e ∙ z))
-  accepted-place (row ∷ rows) p z (inr (none-applies, later)) = accepted-place rows p z later
-
   pub room-bound : a ≡ 0 → ClassTable (graphOf (tableOf bytes job)) (pairsOf (listOf bytes job)) (h .classes)
       × (room-after ≡ reportOf 0 0 (joins (graphOf (tableOf bytes job)) (h .classes)) (h .classes) ++ drop (6 + 2 * wordsOf bytes job) room)
-  unfolding writesNothing
+  unfolding writesNothing number fileNumber matchNumber
   room-bound z =
       let b = h .bound z in
+      let origin : h .place ≡ 0 = passed-none number (HostFault bytes job room) hostOrder a (h .place) refl z (h .answered) .1 in
       let size : length (h .classes) ≡ wordsOf bytes job = b .class-table .long ∙ length-rowIn 4 (wordsOf bytes job) (bodyIn bytes (entryOf job)) in (
         b .class-table,
         room-reported (ap writesNothing z)
             ∙ ap₂ (λ (r n : ℕ). reportOf r (h .place) (h .joined) (h .classes) ++ drop (6 + 2 * n) room) z size
-            ∙ ap₂ (λ (p j : ℕ). reportOf 0 p j (h .classes) ++ drop (6 + 2 * wordsOf bytes job) room) (accepted-place hostOrder (h .place) z (h .answered)) (b .joins-counted),
+            ∙ ap₂ (λ (p j : ℕ). reportOf 0 p j (h .classes) ++ drop (6 + 2 * wordsOf bytes job) room) origin (b .joins-counted),
       )
 
   -- ---- its length
 
-  early : (n : ℕ) → writesNothing n ≡ true → a ≡ n → writesNothing a ≡ false → ⊥
-  early n t e f = let same : writesNothing a ≡ writesNothing n = ap writesNothing e in never (cc)
-
   -- An answer that writes is given in room enough.
   enough : writesNothing a ≡ false → 6 + 2 * wordsOf bytes job ≤ length room
-  unfolding number fileNumber writesNothing
-  enough w = go (h .answered)
+  unfolding number fileNumber
+  enough w = go (answered-parts number (HostFault bytes job room) earlyOrder lateOrder a (h .place) refl (h .answered))
     where
-      go : Answered number (HostFault bytes job room) hostOrder a (h .place) → 6 + 2 * wordsOf bytes job ≤ length room
-      go (inl (e, f)) = absurd (early 12 refl e w)
-      go (inr (_, inl (e, f))) = absurd (early 13 refl e w)
-      go (inr (_, inr (_, inl (e, f)))) = absurd (early 14 refl e w)
-      go (inr (_, inr (_, inr (_, inl (e, f))))) = absurd (early 15 refl e w)
-      go (inr (_, inr (_, inr (_, inr (_, inl (e, f)))))) = absurd (early 1 refl e w)
-      go (inr (_, inr (_, inr (_, inr (_, inr (_, inl (e, f))))))) = absurd (early 2 refl e w)
-      go (inr (_, inr (_, inr (_, inr (_, inr (_, inr (no-room, later))))))) = at-most (λ short. no-room 0 (room-fault short))
+      go : ((a ≡ 0 → ⊥) × Answered number (HostFault bytes job room) earlyOrder a (h .place)) ⊎ (NoneOf (HostFault bytes job room) earlyOrder × Answered number (HostFault bytes job room) lateOrder a (h .place))
+          → 6 + 2 * wordsOf bytes job ≤ length room
+      go (inl (refused, x)) = let silent : writesNothing a ≡ true = early-silent bytes job room a (h .place) refused x in never (cc)
+      go (inr (none-early, later)) = at-most (λ short. none-parts (HostFault bytes job room) (map of-file readOrder) callRows none-early .1 .1 .1 .0 0 (room-fault short))
 
   classes-length : Dec (a ≡ 0) → length (h .classes) ≡ wordsOf bytes job
   classes-length (yes z) = h .bound z .class-table .long ∙ length-rowIn 4 (wordsOf bytes job) (bodyIn bytes (entryOf job))

@@ -6,7 +6,7 @@ use Prim.Native.Nat.{ℕ, _≤_}
 use native.Mathlib.Omega.{arith}
 use lib.ListN.{length, take, drop, getD}
 use lib.Seq.{take-at}
-use Rattle.table.specs.Faults.{pairsOf}
+use Rattle.graphs.specs.Partition.{pairsOf}
 use Rattle.jobfile.specs.File.{countIn, wordsIn, pairsIn, bodyIn, GoodFile}
 use Rattle.jobfile.specs.Jobs.{FileJob, sizesOf, bodiesOf, fileOfJobs, Holdable, jobIn, jobsIn}
 use Rattle.jobfile.specs.Reader.{ReadOf}

@@ -8,10 +8,16 @@ use lib.Dec.{eqb}
 use lib.ListN.{length, getD}
 use Rattle.graphs.specs.Graph.{Symbols, Head, nothing, variable, symbol, Graph, Node, Child, Steps}
 
--- "A list holds 0 to 256 pairs, as 16-bit addresses: left, right". The theory takes a list of any length.
+-- "A list holds 0 to 256 pairs, as 16-bit addresses: left, right, left, right." The theory takes a list of any length.
 pub record Pair : Type 0 where
   pub left : ℕ
   pub right : ℕ
+
+-- the pairs of a row of addresses; an entry that has no partner is dropped, which only a refused list has
+unfoldable pub pairsOf : List ℕ → List Pair
+pairsOf [] = []
+pairsOf (l ∷ []) = []
+pairsOf (l ∷ r ∷ rest) = record { left = l; right = r } ∷ pairsOf rest
 
 infix 40 _∈_
 abbrev pub _∈_ : Pair → List Pair → Type 0

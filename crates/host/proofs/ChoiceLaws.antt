@@ -1,47 +1,34 @@
 -- Which job is chosen, and by which of the six numbers a call is refused.
 --
--- In order: no row has number 0 and none applies at two places (`file-positive`, `host-positive`, `host-once`); the file's
--- rows (`file-answered`, `early-file`); the job's n and p by the row of sizes (`chosen`); none of the six (`none-early`); these
--- six write nothing (`early-silent`, `refused-early`). Assumes nothing.
+-- In order: no row applies at two places (`host-once`); the match's rows as rows of the call (`from-match`, `to-match`,
+-- `none-of-match`); the file's rows (`file-answered`, `early-file`); the job's n and p by the row of sizes (`chosen`); none of the six (`none-early`); these six write nothing
+-- (`early-silent`, `refused-early`). Assumes nothing.
 use mathlib.Core.Path.{_≡_, refl, sym, ap, _∙_, subst}
 use mathlib.Core.Bool.{true}
 use mathlib.Core.Logic.{_⊎_, inl, inr}
-use mathlib.Core.List.{List, [], _∷_}
+use mathlib.Core.List.{List, map}
 use Prim.Native.Nat.{ℕ, _+_, _-_, _*_, _/_, _≤_, _<_}
 use native.Mathlib.Omega.{arith}
 use lib.ListN.{length, getD, replicate, List·getD-append}
-use Rattle.table.specs.Answers.{Answered}
-use Rattle.table.proofs.OneAnswer.{refused-first, passed-first, number-positive, fault-once}
+use Rattle.answering.specs.Answers.{Answered, NoneOf}
+use Rattle.answering.proofs.Orders.{each, answered-tested, passed-none, refused-first, none-first, none-both, carried, carried-back, none-carried}
+use Rattle.table.specs.Faults.{Row as MatchRow, Fault, number as matchNumber}
+use Rattle.table.proofs.OneAnswer.{fault-once}
 use Rattle.jobfile.specs.File.{countIn, wordsIn, pairsIn, sizesIn, GoodFile}
-use Rattle.jobfile.specs.Faults.{Row as FileRow, ROOM as FILE-ROOM, FILE, CONTENTS, BODY, ReadFault, number as fileNumber, readOrder}
+use Rattle.jobfile.specs.Faults.{Row as FileRow, ReadFault, number as fileNumber, readOrder}
 use Rattle.jobfile.specs.Reader.{numberOf, placeOf, Judged, yieldedSizes, inRow, ReadOf}
 use Rattle.jobfile.specs.declared.answers.FileAnswer.{FileAnswer}
 use Rattle.jobfile.specs.declared.answers.FileAnswer.the-variants.{Good}
 use Rattle.jobfile.specs.declared.sizes.Sizes.{Sizes}
 use Rattle.jobfile.proofs.FileLaws.{length-sizesFrom, entry-in-sizes}
 use Rattle.jobfile.proofs.ReaderLaws.{read-once, good-judged, judged-good, good-number}
-use Rattle.host.specs.Host.{entryOf, wordsOf, jobOf, Row, of-file, JOB, SIZE, ROOM, of-match, number, HostFault, file-fault, job-fault, size-fault, room-fault, match-fault, earlyOrder, lateOrder, reportOf, writesNothing, HostOf}
+use Rattle.host.specs.Host.{entryOf, wordsOf, jobOf, Row, of-file, JOB, SIZE, ROOM, of-match, number, HostFault, file-fault, job-fault, size-fault, room-fault, match-fault, callRows, earlyOrder, lateOrder, reportOf, writesNothing, HostOf}
 use Rattle.host.specs.Stages.{Sized, no-size, no-room, fits, Numbered, no-job, there, Early, Open, Choice}
 use Rattle.host.specs.declared.choice.Chosen.{Chosen}
 use Rattle.host.specs.declared.choice.Chosen.the-variants.{Refused, Found}
 use Rattle.host.proofs.ReportLaws.{room-untouched}
 
 -- ---- the rows
-
-pub file-positive : (row : FileRow) → fileNumber row ≡ 0 → ⊥
-unfolding fileNumber
-file-positive FILE-ROOM e = omega arith
-file-positive FILE e = omega arith
-file-positive CONTENTS e = omega arith
-file-positive BODY e = omega arith
-
-pub host-positive : (row : Row) → number row ≡ 0 → ⊥
-unfolding number
-host-positive (of-file row) e = file-positive row e
-host-positive JOB e = omega arith
-host-positive SIZE e = omega arith
-host-positive ROOM e = omega arith
-host-positive (of-match row) e = number-positive row e
 
 module _ (bytes : List ℕ) (job : ℕ) (room : List ℕ) where
   pub host-once : (row : Row) (p q : ℕ) → HostFault bytes job room row p → HostFault bytes job room row q → p ≡ q
@@ -51,17 +38,36 @@ module _ (bytes : List ℕ) (job : ℕ) (room : List ℕ) where
   host-once row p q (room-fault a) (room-fault b) = refl
   host-once row p q (match-fault {row = r} a) (match-fault b) = fault-once (jobOf bytes job) r p q a b
 
+  -- ---- the match's rows
+
+  out-of-match : {row : MatchRow} (p : ℕ) → HostFault bytes job room (of-match row) p → Fault (jobOf bytes job) row p
+  out-of-match p (match-fault f) = f
+
+  module _ (rows : List MatchRow) where
+    pub from-match : (a p : ℕ) → each (λ row. true) rows ≡ true → Answered matchNumber (Fault (jobOf bytes job)) rows a p → Answered number (HostFault bytes job room) (map of-match rows) a p
+    unfolding number
+    from-match =
+        carried matchNumber (Fault (jobOf bytes job)) number (HostFault bytes job room) of-match (λ row. true) (λ row. refl) (λ row q t f. match-fault f) (λ row q t f. out-of-match q f) rows
+
+    pub to-match : (a p : ℕ) → each (λ row. true) rows ≡ true → Answered number (HostFault bytes job room) (map of-match rows) a p → Answered matchNumber (Fault (jobOf bytes job)) rows a p
+    unfolding number
+    to-match =
+        carried-back matchNumber (Fault (jobOf bytes job)) number (HostFault bytes job room) of-match (λ row. true) (λ row. refl) (λ row q t f. match-fault f) (λ row q t f. out-of-match q f) rows
+
+    pub none-of-match : each (λ row. true) rows ≡ true → NoneOf (HostFault bytes job room) (map of-match rows) → NoneOf (Fault (jobOf bytes job)) rows
+    unfolding number
+    none-of-match =
+        none-carried matchNumber (Fault (jobOf bytes job)) number (HostFault bytes job room) of-match (λ row. true) (λ row. refl) (λ row q t f. match-fault f) (λ row q t f. out-of-match q f) rows
+
   -- ---- the file
 
-  no-file-row : {row : FileRow} → ((p : ℕ) → ReadFault bytes row p → ⊥) → (p : ℕ) → HostFault bytes job room (of-file row) p → ⊥
-  no-file-row none-applies p (file-fault f) = none-applies p f
+  out-of-file : {row : FileRow} (p : ℕ) → HostFault bytes job room (of-file row) p → ReadFault bytes row p
+  out-of-file p (file-fault f) = f
 
-  file-answered : (a p : ℕ) → Answered fileNumber (ReadFault bytes) readOrder a p → Answered number (HostFault bytes job room) (of-file FILE ∷ of-file CONTENTS ∷ of-file BODY ∷ []) a p
+  file-answered : (a p : ℕ) → Answered fileNumber (ReadFault bytes) readOrder a p → Answered number (HostFault bytes job room) (map of-file readOrder) a p
   unfolding number
-  file-answered a p (inl (e, x)) = inl (e, file-fault x)
-  file-answered a p (inr (f, inl (e, x))) = inr (no-file-row f, inl (e, file-fault x))
-  file-answered a p (inr (f, inr (c, inl (e, x)))) = inr (no-file-row f, inr (no-file-row c, inl (e, file-fault x)))
-  file-answered a p (inr (f, inr (c, inr (b, rest)))) = inr (no-file-row f, inr (no-file-row c, inr (no-file-row b, rest)))
+  file-answered a p =
+      carried fileNumber (ReadFault bytes) number (HostFault bytes job room) of-file (λ row. true) (λ row. refl) (λ row q t f. file-fault f) (λ row q t f. out-of-file q f) readOrder a p refl
 
   pub early-file : (answer : FileAnswer) {r : ℕ} → Judged bytes answer → r ≡ numberOf answer → (r ≡ 0 → ⊥) → Early bytes job room r
   early-file answer {r} judged e refused = record {
@@ -69,17 +75,19 @@ module _ (bytes : List ℕ) (job : ℕ) (room : List ℕ) where
     refused = refused;
     answered =
         subst (λ (a : ℕ). Answered number (HostFault bytes job room) earlyOrder a (placeOf answer)) (sym e)
-        (refused-first number (HostFault bytes job room) (of-file FILE ∷ of-file CONTENTS ∷ of-file BODY ∷ []) (JOB ∷ SIZE ∷ ROOM ∷ []) (numberOf answer) (placeOf answer) (λ z. refused (e ∙ z))
+        (refused-first number (HostFault bytes job room) (map of-file readOrder) callRows (numberOf answer) (placeOf answer) (λ z. refused (e ∙ z))
         (file-answered (numberOf answer) (placeOf answer) judged));
   }
 
   -- ---- the job, in a good file
 
   module _ (good : GoodFile bytes) where
-    after-file : (a p : ℕ) → Answered number (HostFault bytes job room) (JOB ∷ SIZE ∷ ROOM ∷ []) a p → Answered number (HostFault bytes job room) earlyOrder a p
-    after-file a p later =
-        passed-first number (HostFault bytes job room) host-positive (of-file FILE ∷ of-file CONTENTS ∷ of-file BODY ∷ []) (JOB ∷ SIZE ∷ ROOM ∷ []) 0 a p
-        (file-answered 0 0 (good-judged good)) later
+    no-file-row : NoneOf (HostFault bytes job room) (map of-file readOrder)
+    unfolding number fileNumber
+    no-file-row = passed-none number (HostFault bytes job room) (map of-file readOrder) 0 0 refl refl (file-answered 0 0 (good-judged good)) .0
+
+    after-file : (a p : ℕ) → Answered number (HostFault bytes job room) callRows a p → Answered number (HostFault bytes job room) earlyOrder a p
+    after-file a p = none-first number (HostFault bytes job room) (map of-file readOrder) callRows a p no-file-row
 
     no-job-row : 1 ≤ job → job ≤ countIn bytes → (p : ℕ) → HostFault bytes job room JOB p → ⊥
     no-job-row some-job inside p (job-fault (inl e)) = omega arith
@@ -93,9 +101,9 @@ module _ (bytes : List ℕ) (job : ℕ) (room : List ℕ) where
     no-room-row enough p (room-fault e) = omega arith
 
     pub none-early : 1 ≤ job → job ≤ countIn bytes → 1 ≤ wordsOf bytes job → wordsOf bytes job ≤ 4096 → 6 + 2 * wordsOf bytes job ≤ length room
-        → Answered number (HostFault bytes job room) earlyOrder 0 0
+        → NoneOf (HostFault bytes job room) earlyOrder
     none-early some-job inside some-word few-words enough =
-        after-file 0 0 (inr (no-job-row some-job inside, inr (no-size-row some-word few-words, inr (no-room-row enough, (refl, refl)))))
+        none-both (HostFault bytes job room) (map of-file readOrder) callRows no-file-row (no-job-row some-job inside, (no-size-row some-word few-words, (no-room-row enough, tt)))
 
     sized-choice : {chosen : Chosen} {n p : ℕ} → 1 ≤ job → job ≤ countIn bytes → n ≡ wordsOf bytes job → p ≡ pairsIn bytes (entryOf job)
         → Sized n p (length room) chosen → Choice bytes job room chosen
@@ -142,19 +150,10 @@ chosen-numbered {bytes} {job} room {answer} {sizes} read e z by =
 
 -- ---- these six write nothing
 
-silent-at : {a : ℕ} (b : ℕ) → a ≡ b → writesNothing b ≡ true → writesNothing a ≡ true
-silent-at b e s = ap writesNothing e ∙ s
-
 module _ (bytes : List ℕ) (job : ℕ) (room : List ℕ) where
-  early-silent : (a p : ℕ) → (a ≡ 0 → ⊥) → Answered number (HostFault bytes job room) earlyOrder a p → writesNothing a ≡ true
+  pub early-silent : (a p : ℕ) → (a ≡ 0 → ⊥) → Answered number (HostFault bytes job room) earlyOrder a p → writesNothing a ≡ true
   unfolding number fileNumber writesNothing
-  early-silent a p refused (inl (e, x)) = silent-at 12 e refl
-  early-silent a p refused (inr (u, inl (e, x))) = silent-at 13 e refl
-  early-silent a p refused (inr (u, inr (v, inl (e, x)))) = silent-at 14 e refl
-  early-silent a p refused (inr (u, inr (v, inr (w, inl (e, x))))) = silent-at 15 e refl
-  early-silent a p refused (inr (u, inr (v, inr (w, inr (s, inl (e, x)))))) = silent-at 1 e refl
-  early-silent a p refused (inr (u, inr (v, inr (w, inr (s, inr (t, inl (e, x))))))) = silent-at 2 e refl
-  early-silent a p refused (inr (u, inr (v, inr (w, inr (s, inr (t, inr (r, (z, y)))))))) = absurd (refused z)
+  early-silent a p refused = answered-tested number (HostFault bytes job room) writesNothing earlyOrder a p refl (λ z. absurd (refused z))
 
   pub choice-refused : {chosen : Chosen} {a : ℕ} → Choice bytes job room chosen → chosen ≡ Refused a → Early bytes job room a
   choice-refused c e = subst (Choice bytes job room) e c

@@ -1,28 +1,23 @@
 -- A list that is cut off past 512 entries. The rows 1 to 7 do not look at the list, and 8 applies to every list of over 512
 -- entries, so one such list is answered as any other: `long-lists`. Assumes nothing.
-use mathlib.Core.Logic.{inl, inr}
-use mathlib.Core.List.{List, [], _∷_, _++_}
+use mathlib.Core.Path.{_≡_, refl}
+use mathlib.Core.Logic.{_⊎_, inl, inr}
+use mathlib.Core.List.{List, _∷_, _++_}
 use Prim.Native.Nat.{ℕ, _<_}
 use lib.ListN.{length}
-use Rattle.table.specs.Answers.{Answered}
-use Rattle.table.specs.Faults.{Job, Row, LIST, ADDRESS, CLASH, CYCLE, number, Fault, list-fault, checkOrder, matchOrder}
-use Rattle.matcher.proofs.Verdicts.{Low, check-low, table-fault}
-
--- what a match is sent, by its parts
-abbrev pub sent : List ℕ → List ℕ → ℕ → ℕ → Job
-sent t list c w = record { table = t; list = list; class-room = c; work-room = w }
+use Rattle.answering.specs.Answers.{Answered, NoneOf}
+use Rattle.answering.proofs.Orders.{refused-first, none-first, answered-parts}
+use Rattle.table.specs.Faults.{sent, number, Fault, list-fault, checkOrder, listRows, pairRows, matchOrder}
+use Rattle.table.proofs.OneAnswer.{check-off-list, none-off-list}
 
 module _ (t list other : List ℕ) (c w : ℕ) (over : 512 < length list) (too : 512 < length other) where
-  long-list : {p : ℕ} → Fault (sent t list c w) LIST p → Fault (sent t other c w) LIST p
-  long-list (list-fault x) = list-fault (inr too)
-
-  long-rows : (rows rest : List Row) (a p : ℕ) → Low 7 rows → Answered number (Fault (sent t list c w)) (rows ++ LIST ∷ rest) a p
-      → Answered number (Fault (sent t other c w)) (rows ++ LIST ∷ rest) a p
-  long-rows [] rest a p low (inl (e, x)) = inl (e, long-list x)
-  long-rows [] rest a p low (inr (none-applies, later)) = absurd (none-applies 0 (list-fault (inr over)))
-  long-rows (row ∷ rows) rest a p low (inl (e, x)) = inl (e, table-fault (low .0) x)
-  long-rows (row ∷ rows) rest a p low (inr (none-applies, later)) =
-      inr (λ q f. none-applies q (table-fault (low .0) f), long-rows rows rest a p (low .1) later)
+  long-rows : (a p : ℕ) → ((a ≡ 0 → ⊥) × Answered number (Fault (sent t list c w)) checkOrder a p) ⊎ (NoneOf (Fault (sent t list c w)) checkOrder × Answered number (Fault (sent t list c w)) (listRows ++ pairRows) a p)
+      → Answered number (Fault (sent t other c w)) matchOrder a p
+  unfolding number
+  long-rows a p (inl (refused, x)) = refused-first number (Fault (sent t other c w)) checkOrder (listRows ++ pairRows) a p refused (check-off-list t c w list other a p x)
+  long-rows a p (inr (none-there, inl (e, list-fault x))) = none-first number (Fault (sent t other c w)) checkOrder (listRows ++ pairRows) a p (none-off-list t c w other list none-there) (inl (e, list-fault (inr too)))
+  long-rows a p (inr (none-there, inr (none-applies, later))) = absurd (none-applies 0 (list-fault (inr over)))
 
   pub long-lists : (a p : ℕ) → Answered number (Fault (sent t list c w)) matchOrder a p → Answered number (Fault (sent t other c w)) matchOrder a p
-  long-lists a p x = long-rows checkOrder (ADDRESS ∷ CLASH ∷ CYCLE ∷ []) a p check-low x
+  unfolding number
+  long-lists a p x = long-rows a p (answered-parts number (Fault (sent t list c w)) checkOrder (listRows ++ pairRows) a p refl x)

@@ -2,34 +2,37 @@
 -- `words-copied`, `pairs-copied`); the match's answer as the host call's (`host-lent`); the rows
 -- that are lent for it (`lent-fronts`). Assumes nothing.
 use mathlib.Core.Path.{_≡_, refl, sym, ap, _∙_, subst}
-use mathlib.Core.Logic.{inl, inr}
-use mathlib.Core.List.{List, [], _∷_, _++_, append-nil, List·Memᴰ, List·Memᴰ·head, List·Memᴰ·tail}
-use Prim.Native.Nat.{ℕ, zero, suc, _+_, _-_, _*_, _≤_, _<_, min}
+use mathlib.Core.Bool.{true, false, not}
+use mathlib.Core.Logic.{_⊎_, inl, inr, ⊎-elim}
+use mathlib.Core.List.{List, _++_, append-nil}
+use Prim.Native.Nat.{ℕ, suc, _+_, _-_, _*_, _≤_, _<_, min}
 use native.Mathlib.Nat.{min-eq-left, min-eq-right}
 use native.Mathlib.Decide.{decLe}
 use native.Mathlib.Omega.{arith}
+use borrow.Author.Tests.{not-true}
 use lib.ListN.{length, take, drop, replicate, drop-of-length-le}
 use lib.Seq.{take-all, length-take-le}
 use Rattle.rows.specs.Placed.{placed}
-use Rattle.graphs.specs.Partition.{ClassTable, joins}
+use Rattle.answering.specs.Answers.{Answered, NoneOf}
+use Rattle.answering.specs.Buffers.{changesNothing}
+use Rattle.answering.proofs.Orders.{answered-tested, passed-none, none-first, rest-answers, none-parts}
+use Rattle.answering.proofs.BufferLaws.{later-rows, left-zeroed}
+use Rattle.graphs.specs.Partition.{pairsOf, ClassTable, joins}
 use Rattle.table.specs.Table.{graphOf}
-use Rattle.table.specs.Answers.{Answered}
-use Rattle.table.specs.Faults.{Job, pairsOf, Row as MatchRow, SIZE, ROOM, WORD, LAYOUT, POINTER, NAME, LOOP, LIST, ADDRESS, CLASH, CYCLE, Fault, size-fault, room-fault, list-fault, number as matchNumber, matchOrder}
-use Rattle.table.proofs.OneAnswer.{passed-first}
+use Rattle.table.specs.Faults.{sent, Row as MatchRow, SIZE, ROOM, Fault, size-fault, room-fault, list-fault, number as matchNumber, sizeRows, tableRows, listRows, pairRows, checkOrder, matchOrder}
 use Rattle.matcher.specs.Match.{numberOf, placeOf, joinsOf, MatchOf}
 use Rattle.matcher.specs.declared.answer.Matched.{Matched}
 use Rattle.matcher.proofs.OneMatch.{refused-joins}
-use Rattle.matcher.proofs.Verdicts.{passed-none, late-cleared}
 use Rattle.jobfile.specs.File.{countIn, pairsIn, bodyIn}
 use Rattle.jobfile.specs.Reader.{BodyOf}
 use Rattle.jobfile.specs.Body.{taken}
 use Rattle.jobfile.proofs.NumberLaws.{length-rowIn}
 use Rattle.jobfile.proofs.Theorems.{body-size, body-words, body-pairs}
-use Rattle.host.specs.Host.{entryOf, wordsOf, tableOf, listOf, jobOf, Row, of-match, number, HostFault, match-fault, earlyOrder, lateOrder, reportOf, HostOf}
+use Rattle.host.specs.Host.{entryOf, wordsOf, tableOf, listOf, jobOf, number, HostFault, earlyOrder, lateOrder, reportOf, writesNothing, HostOf}
 use Rattle.host.specs.Stages.{Open, Roomy, Copyable, Lent}
 use Rattle.host.proofs.ReportLaws.{room-reported}
-use Rattle.host.proofs.ChoiceLaws.{host-positive, none-early}
-use Rattle.host.proofs.CutLaws.{sent, long-lists}
+use Rattle.host.proofs.ChoiceLaws.{from-match, none-early}
+use Rattle.host.proofs.CutLaws.{long-lists}
 
 -- ---- out of the body
 
@@ -56,47 +59,22 @@ module _ {bytes : List ℕ} {job : ℕ} {table list part : List ℕ} (c : Copyab
 
 -- ---- the match's answer
 
+-- the rows from 3 on
 abbrev lateRows : List MatchRow
-lateRows = WORD ∷ LAYOUT ∷ POINTER ∷ NAME ∷ LOOP ∷ LIST ∷ ADDRESS ∷ CLASH ∷ CYCLE ∷ []
+lateRows = tableRows ++ listRows ++ pairRows
 
--- the rows of an order have numbers from 3 to 11
-abbrev Late : List MatchRow → Type 0
-Late [] = 0 ≤ 0
-Late (row ∷ rows) = ((3 ≤ matchNumber row) × (matchNumber row ≤ 11)) × Late rows
+-- A job of a size that is allowed has room for it.
+pub sizes-pass : (bytes : List ℕ) (job : ℕ) → ((wordsOf bytes job ≡ 0) ⊎ (4096 < wordsOf bytes job) → ⊥) → NoneOf (Fault (jobOf bytes job)) sizeRows
+sizes-pass bytes job allowed = (no-size, (no-room, tt))
+  where
+    size : length (tableOf bytes job) ≡ wordsOf bytes job
+    size = length-rowIn 4 (wordsOf bytes job) (bodyIn bytes (entryOf job))
 
-rows-late : Late lateRows
-unfolding matchNumber
-rows-late =
-    ((omega arith, omega arith), ((omega arith, omega arith), ((omega arith, omega arith), ((omega arith, omega arith), ((omega arith, omega arith), ((omega arith, omega arith), ((omega arith, omega arith), ((omega arith, omega arith), ((omega arith, omega arith), omega arith)))))))))
+    no-size : (p : ℕ) → Fault (jobOf bytes job) SIZE p → ⊥
+    no-size p (size-fault x) = allowed (subst (λ (n : ℕ). (n ≡ 0) ⊎ (4096 < n)) size x)
 
-late-number : (J : Job) (rows : List MatchRow) (a p : ℕ) → Late rows → Answered matchNumber (Fault J) rows a p → (a ≤ 11) × (a ≡ 1 → ⊥) × (a ≡ 2 → ⊥)
-late-number J [] a p late (z, e) = (omega arith, λ o. omega arith, λ o. omega arith)
-late-number J (row ∷ rows) a p late (inl (e, x)) = (omega (arith, late .0 .1), λ o. omega (arith, late .0 .0), λ o. omega (arith, late .0 .0))
-late-number J (row ∷ rows) a p late (inr (none-applies, later)) = late-number J rows a p (late .1) later
-
-from-three : (a : ℕ) → (a ≡ 0 → ⊥) → (a ≡ 1 → ⊥) → (a ≡ 2 → ⊥) → 3 ≤ a
-from-three zero x y z = absurd (x refl)
-from-three (suc zero) x y z = absurd (y refl)
-from-three (suc (suc zero)) x y z = absurd (z refl)
-from-three (suc (suc (suc a))) x y z = omega arith
-
-abbrev ofMatch : List MatchRow → List Row
-ofMatch [] = []
-ofMatch (row ∷ rows) = of-match row ∷ ofMatch rows
-
-list-row : List·Memᴰ LIST matchOrder
-list-row =
-    List·Memᴰ·tail (List·Memᴰ·tail (List·Memᴰ·tail (List·Memᴰ·tail (List·Memᴰ·tail (List·Memᴰ·tail (List·Memᴰ·tail (List·Memᴰ·head refl)))))))
-
-module _ (bytes : List ℕ) (job : ℕ) (room : List ℕ) where
-  no-match-row : {row : MatchRow} → ((p : ℕ) → Fault (jobOf bytes job) row p → ⊥) → (p : ℕ) → HostFault bytes job room (of-match row) p → ⊥
-  no-match-row none-applies p (match-fault f) = none-applies p f
-
-  lifted : (rows : List MatchRow) (a p : ℕ) → Answered matchNumber (Fault (jobOf bytes job)) rows a p → Answered number (HostFault bytes job room) (ofMatch rows) a p
-  unfolding number
-  lifted [] a p x = x
-  lifted (row ∷ rows) a p (inl (e, x)) = inl (e, match-fault x)
-  lifted (row ∷ rows) a p (inr (none-applies, later)) = inr (no-match-row none-applies, lifted rows a p later)
+    no-room : (p : ℕ) → Fault (jobOf bytes job) ROOM p → ⊥
+    no-room p (room-fault x) = ⊎-elim (λ e. omega (arith, size)) (λ e. omega (arith, size)) x
 
 module _ {bytes : List ℕ} {job : ℕ} {table list class work room : List ℕ} (lent : Lent bytes job table list class work room) where
   cutList : List ℕ
@@ -137,27 +115,21 @@ module _ {bytes : List ℕ} {job : ℕ} {table list class work room : List ℕ} 
 
   -- an accepted list was not cut
   accepted-whole : Dec (2 * pairsIn bytes (entryOf job) ≤ 514) → (p : ℕ) → Answered matchNumber (Fault (jobOf bytes job)) matchOrder 0 p → cutList ≡ listOf bytes job
+  unfolding matchNumber
   accepted-whole (yes h) p x = whole-list h
-  accepted-whole (no h) p x = absurd (passed-none list-row p x 0 (list-fault (inr (too (omega arith)))))
-
-  no-size : (p : ℕ) → Fault (jobOf bytes job) SIZE p → ⊥
-  no-size p (size-fault (inl e)) = omega (arith, size, lent .some-word)
-  no-size p (size-fault (inr e)) = omega (arith, size, lent .few-words)
-
-  no-room : (p : ℕ) → Fault (jobOf bytes job) ROOM p → ⊥
-  no-room p (room-fault (inl e)) = omega (arith, size)
-  no-room p (room-fault (inr e)) = omega (arith, size)
+  accepted-whole (no h) p x =
+      absurd (none-parts (Fault (jobOf bytes job)) checkOrder (listRows ++ pairRows) (passed-none matchNumber (Fault (jobOf bytes job)) matchOrder 0 p refl refl x .0) .1 .0 0 (list-fault (inr (too (omega arith)))))
 
   late : (a p : ℕ) → Answered matchNumber (Fault (jobOf bytes job)) matchOrder a p → Answered matchNumber (Fault (jobOf bytes job)) lateRows a p
-  late a p (inl (e, x)) = absurd (no-size p x)
-  late a p (inr (n, inl (e, x))) = absurd (no-room p x)
-  late a p (inr (n, inr (m, later))) = later
+  late a p =
+      rest-answers matchNumber (Fault (jobOf bytes job)) sizeRows lateRows a p
+      (sizes-pass bytes job (⊎-elim (λ e. omega (arith, e, lent .some-word)) (λ e. omega (arith, e, lent .few-words))))
 
   host-answered : (a p : ℕ) → Answered matchNumber (Fault (jobOf bytes job)) matchOrder a p → Answered number (HostFault bytes job room) (earlyOrder ++ lateOrder) a p
   host-answered a p x =
-      passed-first number (HostFault bytes job room) host-positive earlyOrder lateOrder 0 a p
+      none-first number (HostFault bytes job room) earlyOrder lateOrder a p
       (none-early bytes job room (lent .copyable .good) (lent .copyable .some-job) (lent .copyable .inside) (lent .some-word) (lent .few-words) (lent .enough))
-      (lifted bytes job room lateRows a p (late a p x))
+      (from-match bytes job room lateRows a p refl (late a p x))
 
   -- the class entries are as many as the buffer lent for them
   behind : (front : List ℕ) → front ++ drop (length (tableOf bytes job)) class ≡ front
@@ -168,13 +140,15 @@ module _ {bytes : List ℕ} {job : ℕ} {table list class work room : List ℕ} 
   host-matched : {answer : Matched} {class-after work-after after : List ℕ} {r : ℕ}
       → MatchOf (tableOf bytes job) (take (length list) (listOf bytes job)) class work answer class-after work-after → r ≡ numberOf answer
       → after ≡ placed 0 (reportOf (numberOf answer) (placeOf answer) (joinsOf answer) class-after) room → HostOf bytes job room r after
-  unfolding cutList
+  unfolding cutList matchNumber changesNothing writesNothing
   host-matched {answer} {class-after} {work-after} {after} {r} m e stored =
       let a : ℕ = numberOf answer in
       let p : ℕ = placeOf answer in
       let d : Dec (2 * pairsIn bytes (entryOf job) ≤ 514) = decLe (2 * pairsIn bytes (entryOf job)) 514 in
       let answered : Answered matchNumber (Fault (jobOf bytes job)) matchOrder a p = of-whole d a p (of-cut a p (m .answered)) in
-      let range : (a ≤ 11) × (a ≡ 1 → ⊥) × (a ≡ 2 → ⊥) = late-number (jobOf bytes job) lateRows a p rows-late (late a p answered) in
+      let quiet : changesNothing a ≡ false = later-rows matchNumber (Fault (jobOf bytes job)) lateRows a p refl (late a p answered) in
+      let written : not (writesNothing a) ≡ true =
+      answered-tested matchNumber (Fault (jobOf bytes job)) (λ b. not (writesNothing b)) lateRows a p refl (λ z. ap (λ (b : ℕ). not (writesNothing b)) z) (late a p answered) in
       subst (λ (q : ℕ). HostOf bytes job room q after) (sym e)
       (record {
         place = p;
@@ -191,15 +165,14 @@ module _ {bytes : List ℕ} {job : ℕ} {table list class work room : List ℕ} 
                   (subst (λ (l : List ℕ). ClassTable (graphOf (tableOf bytes job)) (pairsOf l) (b .table)) whole (b .class-table));
               joins-counted = b .joins-counted ∙ ap (joins (graphOf (tableOf bytes job))) row;
             };
-        refused = λ z.
-            let three : 3 ≤ a = from-three a z (range .1) (range .2) in (
-              refused-joins answer z,
-              m .refused z
-                  ∙ late-cleared a (length (tableOf bytes job)) class three
-                  ∙ behind (replicate (length (tableOf bytes job)) 0)
-                  ∙ ap (λ (n : ℕ). replicate n 0) size,
-            );
-        room-left = room-reported a (reportOf a p (joinsOf answer) class-after) room (range .0) (range .1) (range .2) stored;
+        refused = λ z. (
+          refused-joins answer z,
+          m .refused z
+              ∙ left-zeroed a (length (tableOf bytes job)) class quiet
+              ∙ behind (replicate (length (tableOf bytes job)) 0)
+              ∙ ap (λ (n : ℕ). replicate n 0) size,
+        );
+        room-left = room-reported a (reportOf a p (joinsOf answer) class-after) room (not-true (writesNothing a) written) stored;
       })
 
   -- the same, as the stages say it

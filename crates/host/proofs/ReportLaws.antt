@@ -10,7 +10,6 @@ use native.Mathlib.Numerals.{add-one}
 use native.Mathlib.Omega.{arith}
 use lib.ListN.{length, take, drop, getD, length-append, take-append-drop}
 use lib.Seq.{take-suc, take-all, length-take-le}
-use borrow.Author.Tests.{ne-eqb}
 use Rattle.rows.specs.LittleEndian.{bytesOf}
 use Rattle.rows.specs.Placed.{placed}
 use Rattle.rows.proofs.Laws.{length-bytesOf, length-placed}
@@ -86,17 +85,12 @@ reported class room {a} {b} {p} {q} {j} {k} e f g first second =
 
 -- ---- the room by the answer
 
-late-writes : (a : ℕ) → a ≤ 11 → (a ≡ 1 → ⊥) → (a ≡ 2 → ⊥) → writesNothing a ≡ false
-unfolding writesNothing
-late-writes a h one two =
-    rw (ne-eqb a 12 (λ e. omega arith), ne-eqb a 13 (λ e. omega arith), ne-eqb a 14 (λ e. omega arith), ne-eqb a 15 (λ e. omega arith), ne-eqb a 1 one, ne-eqb a 2 two) refl
-
-pub room-reported : (a : ℕ) (report room : List ℕ) {after : List ℕ} → a ≤ 11 → (a ≡ 1 → ⊥) → (a ≡ 2 → ⊥) → after ≡ placed 0 report room → after ≡ roomAfter a report room
+pub room-reported : (a : ℕ) (report room : List ℕ) {after : List ℕ} → writesNothing a ≡ false → after ≡ placed 0 report room → after ≡ roomAfter a report room
 unfolding roomAfter placed
-room-reported a report room h one two e =
+room-reported a report room w e =
     e
     ∙ ap (λ (n : ℕ). report ++ drop n room) (zero-add (length report))
-    ∙ sym (ap (λ (b : Bool). cond b room (report ++ drop (length report) room)) (late-writes a h one two))
+    ∙ sym (ap (λ (b : Bool). cond b room (report ++ drop (length report) room)) w)
 
 pub room-untouched : (a : ℕ) (report room : List ℕ) → writesNothing a ≡ true → room ≡ roomAfter a report room
 unfolding roomAfter

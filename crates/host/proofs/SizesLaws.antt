@@ -7,15 +7,14 @@ use mathlib.Core.List.{List, [], _∷_, _++_}
 use Prim.Native.Nat.{ℕ, _+_, _*_, _≤_, _<_}
 use native.Mathlib.Omega.{arith}
 use lib.ListN.{length, drop}
-use Rattle.table.specs.Answers.{Answered}
-use Rattle.table.proofs.OneAnswer.{refused-first, passed-first}
+use Rattle.answering.specs.Answers.{Answered}
+use Rattle.answering.proofs.Orders.{passed-none, refused-first, none-first}
 use Rattle.jobfile.specs.File.{countIn, sizesIn, GoodFile}
 use Rattle.jobfile.specs.Faults.{Row, ROOM, FILE, CONTENTS, BODY, number, readOrder}
 use Rattle.jobfile.specs.Reader.{numberOf, placeOf, Judged}
 use Rattle.jobfile.specs.declared.answers.FileAnswer.{FileAnswer}
 use Rattle.jobfile.proofs.ReaderLaws.{read-once, good-judged, judged-good, good-number}
 use Rattle.host.specs.Sizes.{SizesFault, SizesOf}
-use Rattle.host.proofs.ChoiceLaws.{file-positive}
 
 pub sizes-once : (bytes sizes : List ℕ) (row : Row) (p q : ℕ) → SizesFault bytes sizes row p → SizesFault bytes sizes row q → p ≡ q
 sizes-once bytes sizes FILE p q a b = read-once FILE p q a b
@@ -40,7 +39,9 @@ accepted-file {bytes} answer judged e z = judged-good (subst (Judged bytes) (goo
 
 module _ {bytes : List ℕ} (sizes : List ℕ) (good : GoodFile bytes) {jobs : ℕ} (counted : jobs ≡ countIn bytes) where
   after-file : (a p : ℕ) → Answered number (SizesFault bytes sizes) (ROOM ∷ []) a p → Answered number (SizesFault bytes sizes) (readOrder ++ (ROOM ∷ [])) a p
-  after-file a p later = passed-first number (SizesFault bytes sizes) file-positive readOrder (ROOM ∷ []) 0 a p (good-judged good) later
+  unfolding number
+  after-file a p later =
+      none-first number (SizesFault bytes sizes) readOrder (ROOM ∷ []) a p (passed-none number (SizesFault bytes sizes) readOrder 0 0 refl refl (good-judged good) .0) later
 
   pub sizes-short : length sizes < 2 * jobs → SizesOf bytes sizes 2 sizes
   unfolding number

@@ -3,18 +3,18 @@
 use mathlib.Core.Path.{_≡_}
 use mathlib.Core.Bool.{Bool, cond, _||_}
 use mathlib.Core.Logic.{_⊎_}
-use mathlib.Core.List.{List, [], _∷_, _++_}
+use mathlib.Core.List.{List, [], _∷_, _++_, map}
 use Prim.Native.Nat.{ℕ, _+_, _-_, _*_, _<_}
 use lib.Dec.{eqb}
 use lib.ListN.{length, drop, replicate}
 use Rattle.rows.specs.LittleEndian.{bytesOf}
-use Rattle.graphs.specs.Partition.{ClassTable, joins}
+use Rattle.graphs.specs.Partition.{pairsOf, ClassTable, joins}
 use Rattle.table.specs.Table.{graphOf}
-use Rattle.table.specs.Answers.{Answered}
-use Rattle.table.specs.Faults.{Job, pairsOf, Row as MatchRow, WORD, LAYOUT, POINTER, NAME, LOOP, LIST, ADDRESS, CLASH, CYCLE, Fault, number as matchNumber}
+use Rattle.answering.specs.Answers.{Answered}
+use Rattle.table.specs.Faults.{Job, sent, Row as MatchRow, Fault, number as matchNumber, tableRows, listRows, pairRows}
 use Rattle.jobfile.specs.Numbers.{bytesOfRow, rowIn}
 use Rattle.jobfile.specs.File.{countIn, wordsIn, pairsIn, bodyIn}
-use Rattle.jobfile.specs.Faults.{Row as FileRow, FILE, CONTENTS, BODY, ReadFault, number as fileNumber}
+use Rattle.jobfile.specs.Faults.{Row as FileRow, ReadFault, number as fileNumber, readOrder}
 
 -- ---- the job of a number
 
@@ -36,7 +36,7 @@ listOf bytes job = rowIn 2 (2 * pairsIn bytes (entryOf job)) (drop (4 * wordsOf 
 
 -- What the match is sent. The host call has buffers of n and of 4n entries for it, so that 2 is about the room alone.
 abbrev pub jobOf : List ℕ → ℕ → Job
-jobOf bytes job = record { table = tableOf bytes job; list = listOf bytes job; class-room = wordsOf bytes job; work-room = 4 * wordsOf bytes job }
+jobOf bytes job = sent (tableOf bytes job) (listOf bytes job) (wordsOf bytes job) (4 * wordsOf bytes job)
 
 -- ---- the answer
 
@@ -66,21 +66,14 @@ pub data HostFault (bytes : List ℕ) (job : ℕ) (room : List ℕ) : Row → �
   match-fault : {row : MatchRow} {p : ℕ} → Fault (jobOf bytes job) row p → HostFault bytes job room (of-match row) p
 
 -- "Order: 12, 13, 14; 15 ..; 1; 2 .." and then 3 to 11
+abbrev pub callRows : List Row
+callRows = JOB ∷ SIZE ∷ ROOM ∷ []
+
 abbrev pub earlyOrder : List Row
-earlyOrder = of-file FILE ∷ of-file CONTENTS ∷ of-file BODY ∷ JOB ∷ SIZE ∷ ROOM ∷ []
+earlyOrder = map of-file readOrder ++ callRows
 
 abbrev pub lateOrder : List Row
-lateOrder =
-    of-match WORD
-    ∷ of-match LAYOUT
-    ∷ of-match POINTER
-    ∷ of-match NAME
-    ∷ of-match LOOP
-    ∷ of-match LIST
-    ∷ of-match ADDRESS
-    ∷ of-match CLASH
-    ∷ of-match CYCLE
-    ∷ []
+lateOrder = map of-match (tableRows ++ listRows ++ pairRows)
 
 abbrev pub hostOrder : List Row
 hostOrder = earlyOrder ++ lateOrder

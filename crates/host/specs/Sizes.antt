@@ -4,7 +4,7 @@ use mathlib.Core.Path.{_≡_}
 use mathlib.Core.List.{List, [], _∷_, _++_}
 use Prim.Native.Nat.{ℕ, _*_, _<_}
 use lib.ListN.{length, drop}
-use Rattle.table.specs.Answers.{Answered}
+use Rattle.answering.specs.Answers.{Answered}
 use Rattle.jobfile.specs.File.{countIn, sizesIn}
 use Rattle.jobfile.specs.Faults.{Row, ROOM, FILE, CONTENTS, BODY, number, ReadFault, readOrder}
 use Rattle.host.specs.AsOne.{asOne}

@@ -4,7 +4,7 @@ use mathlib.Core.Logic.{_⊎_}
 use mathlib.Core.List.{List}
 use Prim.Native.Nat.{ℕ, _+_, _-_, _*_, _≤_, _<_, min}
 use lib.ListN.{length, getD}
-use Rattle.table.specs.Answers.{Answered}
+use Rattle.answering.specs.Answers.{Answered}
 use Rattle.jobfile.specs.File.{countIn, wordsIn, pairsIn, GoodFile}
 use Rattle.host.specs.Host.{entryOf, wordsOf, HostFault, number, earlyOrder}
 use Rattle.host.specs.declared.choice.Chosen.{Chosen}

@@ -2,14 +2,15 @@
 ghost use mathlib.Core.Path.{_≡_};
 ghost use Rattle.matcher.specs.Match.{numberOf, placeOf, joinsOf};
 ghost use Rattle.host.specs.AsOne.{asOne};
+use matcher::answer;
 use matcher::answer::Matched;
 
 // Answer, place and joins in one number.
 pub fn as_one(answer: Matched) -> u64
     ensures { λ r. ⌜ r ≡ asOne (numberOf answer) (placeOf answer) (joinsOf answer) ⌝ }
 {
-    let number = numbers::number(answer) as u64;
-    let place = numbers::place(answer) as u64;
-    let joins = numbers::joins(answer) as u64;
+    let number = answer::number(answer) as u64;
+    let place = answer::place(answer) as u64;
+    let joins = answer::joins(answer) as u64;
     number + 65536 * place + 4294967296 * joins
 }

@@ -8,6 +8,7 @@ ghost use Rattle.rows.specs.Placed.{placed};
 ghost use Rattle.matcher.specs.Match.{numberOf, placeOf, joinsOf};
 ghost use Rattle.jobfile.specs.Numbers.{bytesOfRow};
 ghost use Rattle.host.specs.Host.{reportOf};
+use matcher::answer;
 use matcher::answer::Matched;
 
 // Puts three numbers into the first 6 bytes. The bytes after them stay.
@@ -37,8 +38,8 @@ pub(crate) fn report(answer: Matched, class: &[u16], room: &mut [u8]) -> u16
     requires { ⌜ 6 + 2 * length (now class) ≤ length (now room) ⌝ }
     ensures { λ r. ⌜ (r ≡ numberOf answer) × (now (room .exit) ≡ placed 0 (reportOf (numberOf answer) (placeOf answer) (joinsOf answer) (now (class .entry))) (now (room .entry))) ⌝ }
 {
-    let number = numbers::number(answer);
-    put_numbers(room, number, numbers::place(answer), numbers::joins(answer));
+    let number = answer::number(answer);
+    put_numbers(room, number, answer::place(answer), answer::joins(answer));
     put_classes(class, room);
     number
 }

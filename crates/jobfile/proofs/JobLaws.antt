@@ -12,8 +12,7 @@ use native.Mathlib.Nat.{mul-suc}
 use native.Mathlib.Omega.{arith}
 use lib.ListN.{length, take, drop, getD, length-append}
 use lib.Seq.{take-nil, take-take, drop-drop, drop-at}
-use Rattle.graphs.specs.Partition.{Pair}
-use Rattle.table.specs.Faults.{pairsOf}
+use Rattle.graphs.specs.Partition.{Pair, pairsOf}
 use Rattle.rows.specs.LittleEndian.{number}
 use Rattle.jobfile.specs.Numbers.{bytesOfRow, rowIn, AllBelow}
 use Rattle.jobfile.specs.File.{bodySize, wordsIn, pairsIn, bodyStart, sizesFrom, bodiesSize}

@@ -19,8 +19,9 @@ use lib.Dec.{eqb}
 use lib.ListN.{length}
 use borrow.Author.Count.{below-more}
 use Rattle.graphs.proofs.Classes.{never}
-use Rattle.table.specs.Answers.{Lowest}
-use Rattle.table.proofs.OneAnswer.{answered-only, lowest-only}
+use Rattle.answering.specs.Answers.{Lowest}
+use Rattle.answering.proofs.LowestLaws.{lowest-only}
+use Rattle.answering.proofs.Orders.{answered-only, passed-none}
 use Rattle.jobfile.specs.File.{bodySize, contentsEnd, countIn, offsetIn, wordsIn, pairsIn, bodyStart, GoodFile}
 use Rattle.jobfile.specs.Faults.{Row, FILE, CONTENTS, BODY, number, BodyFault, wrong-offset, past-end, bytes-follow, ReadFault, file-fault, contents-fault, body-fault, readOrder}
 use Rattle.jobfile.specs.Reader.{numberOf, placeOf, Judged, yieldedSizes, yieldedBodies, yieldedBody, inRow, Holds, ReadOf, BodiesOf, BodyOf, passes, Opened, BodiesJudged}
@@ -250,10 +251,9 @@ module _ {bytes : List ℕ} where
 
   pub judged-good : Judged bytes Good → GoodFile bytes
   unfolding number
-  judged-good (inl (e, x)) = absurd (omega arith)
-  judged-good (inr (f, inl (e, x))) = absurd (omega arith)
-  judged-good (inr (f, inr (c, inl (e, x)))) = absurd (omega arith)
-  judged-good (inr (f, inr (c, inr (b, rest)))) = all-good (not-contents (not-file f) c) (λ p lowest. b p (body-fault lowest))
+  judged-good judged =
+      let rows = passed-none number (ReadFault bytes) readOrder 0 0 refl refl judged .0 in
+      all-good (not-contents (not-file (rows .0)) (rows .1 .0)) (λ p lowest. rows .1 .1 .0 p (body-fault lowest))
 
 is-good : (r : FileAnswer) → passes r ≡ true → r ≡ Good
 is-good Good e = refl

@@ -19,7 +19,7 @@ use lib.ListN.{length, take, drop, getD, replicate, length-replicate, length-app
 use lib.Seq.{take-at, length-take-le}
 use borrow.Author.Tests.{lt-ltb}
 use Rattle.rows.specs.LittleEndian.{AllBytes}
-use Rattle.table.specs.Faults.{pairsOf}
+use Rattle.graphs.specs.Partition.{pairsOf}
 use Rattle.jobfile.specs.Numbers.{rowIn}
 use Rattle.jobfile.specs.File.{bodySize, countIn, wordsIn, pairsIn, bodyStart, bodyIn, sizesIn, bodiesIn, GoodFile, fileOf}
 use Rattle.jobfile.specs.Jobs.{FileJob, sizesOf, bodiesOf, fileOfJobs, Holdable, jobIn, jobsFrom, jobsIn}

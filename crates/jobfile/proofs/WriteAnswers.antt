@@ -13,8 +13,7 @@ use lib.ListN.{length, take, drop}
 use lib.Seq.{take-at}
 use Rattle.rows.specs.Placed.{placed}
 use Rattle.rows.proofs.Laws.{behind-stays}
-use Rattle.table.specs.Answers.{Answered}
-use Rattle.table.proofs.OneAnswer.{answered-only}
+use Rattle.answering.proofs.Orders.{answered-only, passed-none}
 use Rattle.jobfile.specs.File.{contentsEnd, jobCount, bodiesSize, fileOf}
 use Rattle.jobfile.specs.Faults.{Row, CONTENTS, BODY, FILE, ROOM, number, WriteFault, contents-refused, body-refused, file-refused, room-refused, writeOrder}
 use Rattle.jobfile.specs.Writer.{numberOf, placeOf, left, WriteOf, frontOf, Fitted}
@@ -98,7 +97,14 @@ module _ (sizes bodies room : List ℕ) where
 -- what the writer writes, no row refuses
 pub written-writable : {sizes bodies room after : List ℕ} → WriteOf sizes bodies room Written after → Writable sizes bodies
 unfolding number
-written-writable {sizes} {bodies} {room} w = go (w .answered)
+written-writable {sizes} {bodies} {room} w =
+    let rows = passed-none number (WriteFault sizes bodies room) writeOrder 0 0 refl refl (w .answered) .0 in
+    put
+    (allowed (ℕ-discrete (length sizes % 2) 1) (decLe 1 (jobCount sizes)) (decLe (jobCount sizes) 64) (rows .0))
+    (ℕ-discrete (length bodies) (bodiesSize sizes))
+    (decLe (length (fileOf sizes bodies)) 32768)
+    (rows .1 .0)
+    (rows .1 .1 .0)
   where
     put : Allowed sizes → Dec (length bodies ≡ bodiesSize sizes) → Dec (length (fileOf sizes bodies) ≤ 32768)
         → ((p : ℕ) → WriteFault sizes bodies room BODY p → ⊥) → ((p : ℕ) → WriteFault sizes bodies room FILE p → ⊥) → Writable sizes bodies
@@ -111,19 +117,6 @@ written-writable {sizes} {bodies} {room} w = go (w .answered)
     allowed (no even) (yes l) (no m) c = absurd (c 0 (contents-refused (inr (inr (omega arith)))))
     allowed (no even) (no l) d c = absurd (c 0 (contents-refused (inr (inl (omega arith)))))
     allowed (yes odd) d e c = absurd (c 0 (contents-refused (inl odd)))
-
-    go : Answered number (WriteFault sizes bodies room) writeOrder 0 0 → Writable sizes bodies
-    go (inl (e, x)) = absurd (omega arith)
-    go (inr (c, inl (e, x))) = absurd (omega arith)
-    go (inr (c, inr (b, inl (e, x)))) = absurd (omega arith)
-    go (inr (c, inr (b, inr (f, inl (e, x))))) = absurd (omega arith)
-    go (inr (c, inr (b, inr (f, inr (r, rest))))) =
-        put
-        (allowed (ℕ-discrete (length sizes % 2) 1) (decLe 1 (jobCount sizes)) (decLe (jobCount sizes) 64) c)
-        (ℕ-discrete (length bodies) (bodiesSize sizes))
-        (decLe (length (fileOf sizes bodies)) 32768)
-        b
-        f
 
 -- ---- one answer
 

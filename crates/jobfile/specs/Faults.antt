@@ -5,7 +5,7 @@ use mathlib.Core.Logic.{_⊎_}
 use mathlib.Core.List.{List, [], _∷_}
 use Prim.Native.Nat.{ℕ, suc, _+_, _%_, _<_}
 use lib.ListN.{length}
-use Rattle.table.specs.Answers.{Lowest}
+use Rattle.answering.specs.Answers.{Lowest}
 use Rattle.jobfile.specs.File.{contentsEnd, countIn, offsetIn, bodyStart, jobCount, bodiesSize, fileOf}
 
 pub data Row : Type 0 where

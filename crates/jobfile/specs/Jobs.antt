@@ -3,8 +3,7 @@
 use mathlib.Core.List.{List, [], _∷_, _++_}
 use Prim.Native.Nat.{ℕ, _*_, _^_, _≤_}
 use lib.ListN.{length, drop}
-use Rattle.graphs.specs.Partition.{Pair}
-use Rattle.table.specs.Faults.{pairsOf}
+use Rattle.graphs.specs.Partition.{Pair, pairsOf}
 use Rattle.jobfile.specs.Numbers.{bytesOfRow, rowIn, AllBelow}
 use Rattle.jobfile.specs.File.{bodySize, sizesIn, bodiesIn, fileOf}
 

@@ -5,7 +5,7 @@ use mathlib.Core.List.{List, [], _∷_, _++_}
 use Prim.Native.Nat.{ℕ, zero, suc, _-_, _≤_}
 use lib.Dec.{ltb}
 use lib.ListN.{length, replicate}
-use Rattle.table.specs.Answers.{Answered}
+use Rattle.answering.specs.Answers.{Answered}
 use Rattle.jobfile.specs.File.{contentsEnd, countIn, bodyIn, sizesIn, bodiesIn}
 use Rattle.jobfile.specs.Faults.{BODY, number, ReadFault, readOrder}
 use Rattle.jobfile.specs.declared.answers.FileAnswer.{FileAnswer}

@@ -5,7 +5,7 @@ use mathlib.Core.List.{List, _++_}
 use Prim.Native.Nat.{ℕ, _+_, _*_, _≤_}
 use lib.ListN.{length, drop}
 use Rattle.rows.specs.LittleEndian.{bytesOf}
-use Rattle.table.specs.Answers.{Answered}
+use Rattle.answering.specs.Answers.{Answered}
 use Rattle.jobfile.specs.File.{contentsEnd, jobCount, bodiesSize, contentsOf, fileOf}
 use Rattle.jobfile.specs.Faults.{number, WriteFault, writeOrder}
 use Rattle.jobfile.specs.declared.answers.WriteAnswer.{WriteAnswer}

@@ -6,18 +6,18 @@
 --     one result                    job-only: two results that the contract of match_job allows are equal
 -- Assumes nothing.
 use mathlib.Core.Path.{_≡_, refl, sym, ap, _∙_, subst}
-use mathlib.Core.Logic.{inl, inr}
 use mathlib.Core.List.{List, [], _++_}
 use Prim.Native.Nat.{ℕ, suc, _+_, _-_, _*_, _/_, _≤_, _<_}
-use native.Mathlib.Decide.{decLe}
 use native.Mathlib.Numerals.{add-one}
 use native.Mathlib.Omega.{arith}
 use lib.ListN.{length, take, drop, getD, length-append}
 use lib.Seq.{take-all, length-take-le}
-use Rattle.table.specs.Answers.{Answered}
-use Rattle.table.specs.Faults.{Fault, size-fault, room-fault, number, matchOrder}
+use Rattle.answering.proofs.Orders.{passed-none, none-parts}
+use Rattle.table.specs.Faults.{Job, Fault, number, checkOrder, listRows, pairRows, matchOrder}
 use Rattle.matcher.specs.Match.{numberOf, placeOf, jobOf, MatchOf}
+use Rattle.matcher.specs.Stages.{Ready}
 use Rattle.matcher.specs.declared.answer.Matched.{Matched}
+use Rattle.matcher.proofs.Verdicts.{ready}
 use Rattle.matcher.proofs.OneMatch.{match-only}
 use Rattle.jobfile.specs.File.{countIn, wordsIn, pairsIn, bodyStart, bodyIn, sizesIn, GoodFile}
 use Rattle.jobfile.specs.Numbers.{rowIn}
@@ -97,27 +97,14 @@ pub good-listed : {file : List ℕ} {answer : FileAnswer} {sizes : Sizes} → Re
 good-listed {answer = answer} read e =
     let good = reader-accepts-good read .0 (good-number answer e) in (good, good-sizes good read)
 
-room-of : (t list class work : List ℕ) (answer place : ℕ) → answer ≡ 0 → Answered number (Fault (jobOf t list class work)) matchOrder answer place
-    → (length t ≤ 4096) × (length t ≤ length class)
-unfolding number
-room-of t list class work answer place z (inl (e, x)) = absurd (omega (arith, e, z))
-room-of t list class work answer place z (inr (f, inl (e, x))) = absurd (omega (arith, e, z))
-room-of t list class work answer place z (inr (f, inr (g, rest))) = (small (decLe (length t) 4096), enough (decLe (length t) (length class)))
-  where
-    small : Dec (length t ≤ 4096) → length t ≤ 4096
-    small (yes h) = h
-    small (no h) = absurd (f 0 (size-fault (inr (omega (arith, h)))))
-
-    enough : Dec (length t ≤ length class) → length t ≤ length class
-    enough (yes h) = h
-    enough (no h) = absurd (g 0 (room-fault (inl (omega (arith, h)))))
-
 -- a table that is accepted has room in the class row
 pub accepted-room : {file class work table list class-after work-after : List ℕ} {k : ℕ} {answer : Matched} → JobMatched file k class work answer table list class-after work-after → numberOf answer ≡ 0
     → (length table ≤ 4096) × (length table ≤ length class)
+unfolding number
 accepted-room {file} {class} {work} {k = k} {answer} m z =
-    let room = room-of (jobAt file k .words) (entriesOf (jobAt file k .pairs)) class work (numberOf answer) (placeOf answer) z (m .matched .answered) in
-    (omega (arith, room .0, ap length (m .words)), omega (arith, room .1, ap length (m .words)))
+    let job : Job = jobOf (jobAt file k .words) (entriesOf (jobAt file k .pairs)) class work in
+    let has : Ready job = ready (none-parts (Fault job) (checkOrder ++ listRows) pairRows (passed-none number (Fault job) matchOrder (numberOf answer) (placeOf answer) refl z (m .matched .answered) .0) .0) in
+    (omega (arith, has .small, ap length (m .words)), omega (arith, has .class-enough, ap length (m .words)))
 
 -- ---- the row of the table
 

@@ -16,6 +16,7 @@ use jobfile::answers;
 use jobfile::answers::FileAnswer;
 use libc::STDIN_FILENO;
 use libc::STDOUT_FILENO;
+use matcher::answer;
 use matcher::answer::Matched;
 use variables::Entry;
 use words::numbers::Address;
@@ -41,9 +42,9 @@ fn print_job(job: u16, answer: Matched) {
     let mut line = [0u8; 24];
     let size = lines::job_line(
         job,
-        numbers::number(answer),
-        numbers::place(answer),
-        numbers::joins(answer),
+        answer::number(answer),
+        answer::place(answer),
+        answer::joins(answer),
         &mut line,
     );
     io::write_all(STDOUT_FILENO, &line[..size]);
@@ -92,7 +93,7 @@ fn print_entered(file: &[u8], k: usize, n: usize, p: usize)
         &mut work,
     );
     print_job((k + 1) as u16, answer);
-    if numbers::number(answer) == 0 {
+    if answer::number(answer) == 0 {
         print_variables(&table[..n], &class);
     }
 }

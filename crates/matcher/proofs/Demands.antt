@@ -7,25 +7,26 @@
 -- Assumes nothing.
 use mathlib.Core.Path.{_≡_, refl, sym, ap, _∙_, subst}
 use mathlib.Core.Logic.{_⊎_, inl, inr, ⊎-elim, _↔_}
-use mathlib.Core.List.{List, List·Memᴰ, List·Memᴰ·head, List·Memᴰ·tail}
+use mathlib.Core.List.{List, _++_}
 use Prim.Native.Nat.{ℕ, zero, suc, _+_, _-_, _≤_, _<_}
-use native.Mathlib.Decide.{ℕ-discrete, decLt}
 use native.Mathlib.Omega.{arith}
 use lib.ListN.{length, take, drop}
 use lib.Seq.{take-at, take-all}
+use Rattle.answering.specs.Answers.{Answered, NoneOf}
+use Rattle.answering.proofs.LowestLaws.{neither-below}
+use Rattle.answering.proofs.Orders.{answered-only, passed-none, rest-answers}
 use Rattle.graphs.specs.Graph.{Symbols, Graph, variable, WellFormed}
-use Rattle.graphs.specs.Partition.{Pair, _∈_, Sides, Clash, Cycle, ClassTable, joins}
+use Rattle.graphs.specs.Partition.{Pair, pairsOf, _∈_, Sides, Clash, Cycle, ClassTable, joins}
 use Rattle.graphs.specs.Term.{Replacement, _then_, Unifies, FollowsRule, answer}
 use Rattle.graphs.proofs.Theorems.{unifier-no-clash, unifier-no-cycle, no-pairs-no-clash, no-pairs-no-cycle, answer-unifies, answer-most-general, answer-follows-rule, first-pairs-grow, class-table-or-clash}
 use Rattle.table.specs.Table.{TableSymbols, graphOf}
-use Rattle.table.specs.Answers.{Answered}
-use Rattle.table.specs.Faults.{Job, pairsOf, Row, SIZE, ROOM, WORD, LAYOUT, POINTER, NAME, LOOP, LIST, ADDRESS, CLASH, CYCLE, number, Fault, size-fault, room-fault, word-fault, layout-fault, pointer-fault, name-fault, loop-fault, list-fault, address-fault, clash-fault, cycle-fault, matchOrder}
-use Rattle.table.proofs.OneAnswer.{answered-only, fault-once}
+use Rattle.table.specs.Faults.{Job, number, Fault, clash-fault, cycle-fault, checkOrder, listRows, pairRows, matchOrder}
+use Rattle.table.proofs.OneAnswer.{fault-once}
 use Rattle.matcher.specs.declared.answer.Matched.{Matched}
 use Rattle.matcher.specs.Match.{numberOf, placeOf, joinsOf, Bound, jobOf, MatchOf, Passes}
 use Rattle.matcher.specs.Demands.{Met, FirstUnmet, FirstClash, FirstCycle}
 use Rattle.matcher.specs.Stages.{Ready}
-use Rattle.matcher.proofs.Verdicts.{passed-none, applied, ready, list-so-far, accepted-answered, clash-answered, cycle-answered}
+use Rattle.matcher.proofs.Verdicts.{ready, list-so-far, accepted-answered, clash-answered, cycle-answered}
 
 -- ---- lists that can be met
 
@@ -42,62 +43,30 @@ module _ {S : Symbols} (G : Graph S) where
       ⊎-elim (λ c. (answer G (c .0), answer-unifies wf sides (c .1) no-clash no-cycle)) (λ c. absurd (no-clash c)) (class-table-or-clash wf sides)
 
   first-unmet-only : {pairs : List Pair} {j k : ℕ} → FirstUnmet G pairs j → FirstUnmet G pairs k → j ≡ k
-  first-unmet-only {pairs} {j} {k} f g = go (decLt j k) (decLt k j)
-    where
-      go : Dec (j < k) → Dec (k < j) → j ≡ k
-      go (yes h) d = absurd (f .unmet (sooner-met pairs j (k - 1) (omega arith) (g .met-before)))
-      go (no h) (yes l) = absurd (g .unmet (sooner-met pairs k (j - 1) (omega arith) (f .met-before)))
-      go (no h) (no l) = omega arith
+  first-unmet-only {pairs} {j} {k} f g =
+      neither-below (λ h. f .unmet (sooner-met pairs j (k - 1) (omega arith) (g .met-before))) (λ h. g .unmet (sooner-met pairs k (j - 1) (omega arith) (f .met-before)))
 
 -- ---- what the rows 10 and 11 say
 
-clash-shown : {job : Job} {row : Row} {p : ℕ} → number row ≡ 10 → Fault job row p → (i : ℕ) × (p ≡ i + 1) × FirstClash (graphOf (job .table)) (pairsOf (job .list)) i
-unfolding number
-clash-shown e (size-fault x) = absurd (omega arith)
-clash-shown e (room-fault x) = absurd (omega arith)
-clash-shown e (word-fault x) = absurd (omega arith)
-clash-shown e (layout-fault x) = absurd (omega arith)
-clash-shown e (pointer-fault x) = absurd (omega arith)
-clash-shown e (name-fault x) = absurd (omega arith)
-clash-shown e (loop-fault x s) = absurd (omega arith)
-clash-shown e (list-fault x) = absurd (omega arith)
-clash-shown e (address-fault x) = absurd (omega arith)
-clash-shown e (clash-fault {i} h c n m) = (i, refl, record { within = h; clash = c; no-clash-before = n; no-cycle-before = m })
-clash-shown e (cycle-fault h c f n m) = absurd (omega arith)
+module _ {job : Job} where
+  clash-told : (a p : ℕ) → a ≡ 10 → Answered number (Fault job) pairRows a p → (i : ℕ) × (p ≡ i + 1) × FirstClash (graphOf (job .table)) (pairsOf (job .list)) i
+  unfolding number
+  clash-told a p ten (inl (e, clash-fault {i} h c n m)) = (i, refl, record { within = h; clash = c; no-clash-before = n; no-cycle-before = m })
+  clash-told a p ten (inr (no-clash, inl (e, f))) = absurd (omega arith)
+  clash-told a p ten (inr (no-clash, inr (no-cycle, (z, e)))) = absurd (omega arith)
 
-cycle-shown : {job : Job} {row : Row} {p : ℕ} → number row ≡ 11 → Fault job row p → (i : ℕ) × (p ≡ i + 1) × FirstCycle (graphOf (job .table)) (pairsOf (job .list)) i
-unfolding number
-cycle-shown e (size-fault x) = absurd (omega arith)
-cycle-shown e (room-fault x) = absurd (omega arith)
-cycle-shown e (word-fault x) = absurd (omega arith)
-cycle-shown e (layout-fault x) = absurd (omega arith)
-cycle-shown e (pointer-fault x) = absurd (omega arith)
-cycle-shown e (name-fault x) = absurd (omega arith)
-cycle-shown e (loop-fault x s) = absurd (omega arith)
-cycle-shown e (list-fault x) = absurd (omega arith)
-cycle-shown e (address-fault x) = absurd (omega arith)
-cycle-shown e (clash-fault h c n m) = absurd (omega arith)
-cycle-shown e (cycle-fault {i} h c f n m) = (i, refl, record { within = h; cycle = c; no-clash = f; no-clash-before = n; no-cycle-before = m })
+  cycle-told : (a p : ℕ) → a ≡ 11 → Answered number (Fault job) pairRows a p → (i : ℕ) × (p ≡ i + 1) × FirstCycle (graphOf (job .table)) (pairsOf (job .list)) i
+  unfolding number
+  cycle-told a p eleven (inl (e, f)) = absurd (omega arith)
+  cycle-told a p eleven (inr (no-clash, inl (e, cycle-fault {i} h c f n m))) =
+      (i, refl, record { within = h; cycle = c; no-clash = f; no-clash-before = n; no-cycle-before = m })
+  cycle-told a p eleven (inr (no-clash, inr (no-cycle, (z, e)))) = absurd (omega arith)
 
-clash-among : List·Memᴰ CLASH matchOrder
-clash-among = List·Memᴰ·tail (List·Memᴰ·tail (List·Memᴰ·tail (List·Memᴰ·tail (List·Memᴰ·tail (List·Memᴰ·tail (List·Memᴰ·tail (List·Memᴰ·tail (List·Memᴰ·tail (List·Memᴰ·head refl)))))))))
-
-cycle-among : List·Memᴰ CYCLE matchOrder
-cycle-among = List·Memᴰ·tail (List·Memᴰ·tail (List·Memᴰ·tail (List·Memᴰ·tail (List·Memᴰ·tail (List·Memᴰ·tail (List·Memᴰ·tail (List·Memᴰ·tail (List·Memᴰ·tail (List·Memᴰ·tail (List·Memᴰ·head refl))))))))))
-
-late-row : (row : Row) → (number row ≤ 9 → ⊥) → (number row ≡ 10) ⊎ (number row ≡ 11)
-unfolding number
-late-row SIZE late = absurd (late (omega arith))
-late-row ROOM late = absurd (late (omega arith))
-late-row WORD late = absurd (late (omega arith))
-late-row LAYOUT late = absurd (late (omega arith))
-late-row POINTER late = absurd (late (omega arith))
-late-row NAME late = absurd (late (omega arith))
-late-row LOOP late = absurd (late (omega arith))
-late-row LIST late = absurd (late (omega arith))
-late-row ADDRESS late = absurd (late (omega arith))
-late-row CLASH late = inl refl
-late-row CYCLE late = inr refl
+  which : (a p : ℕ) → Answered number (Fault job) pairRows a p → (a ≡ 0) ⊎ ((a ≡ 10) ⊎ (a ≡ 11))
+  unfolding number
+  which a p (inl (e, f)) = inr (inl e)
+  which a p (inr (no-clash, inl (e, f))) = inr (inr e)
+  which a p (inr (no-clash, inr (no-cycle, (z, e)))) = inl z
 
 module _ {t list class work : List ℕ} {r : Matched} {class-after work-after : List ℕ} (m : MatchOf t list class work r class-after work-after) (passes : Passes (jobOf t list class work)) where
   has : Ready (jobOf t list class work)
@@ -105,6 +74,10 @@ module _ {t list class work : List ℕ} {r : Matched} {class-after work-after : 
 
   sides-so-far : (k : ℕ) → Sides (graphOf t) (take k (pairsOf list))
   sides-so-far k p q = has .sides p (list-so-far passes k p q)
+
+  -- where the rows 1 to 9 do not apply, 10 and 11 answer
+  by-pairs : Answered number (Fault (jobOf t list class work)) pairRows (numberOf r) (placeOf r)
+  by-pairs = rest-answers number (Fault (jobOf t list class work)) (checkOrder ++ listRows) pairRows (numberOf r) (placeOf r) passes (m .answered)
 
   -- ---- the class table
 
@@ -124,20 +97,20 @@ module _ {t list class work : List ℕ} {r : Matched} {class-after work-after : 
 
   -- If the answer is 0, no part of the list has a clash or a cycle.
   faultless-so-far : numberOf r ≡ 0 → (k : ℕ) → k ≤ length (pairsOf list) → (Clash (graphOf t) (take k (pairsOf list)) → ⊥) × (Cycle (graphOf t) (take k (pairsOf list)) → ⊥)
+  unfolding number
   faultless-so-far z zero h = (no-pairs-no-clash (has .well-formed), no-pairs-no-cycle (has .well-formed))
   faultless-so-far z (suc k) h =
       subst (λ (n : ℕ). (Clash (graphOf t) (take n (pairsOf list)) → ⊥) × (Cycle (graphOf t) (take n (pairsOf list)) → ⊥)) (let e : k + 1 ≡ suc k = omega arith in e)
       (one-more (faultless-so-far z k (omega arith)))
     where
-      answered : Answered number (Fault (jobOf t list class work)) matchOrder 0 (placeOf r)
-      answered = subst (λ (a : ℕ). Answered number (Fault (jobOf t list class work)) matchOrder a (placeOf r)) z (m .answered)
+      neither : NoneOf (Fault (jobOf t list class work)) pairRows
+      neither = passed-none number (Fault (jobOf t list class work)) pairRows (numberOf r) (placeOf r) refl z by-pairs .0
 
       one-more : (Clash (graphOf t) (take k (pairsOf list)) → ⊥) × (Cycle (graphOf t) (take k (pairsOf list)) → ⊥)
           → (Clash (graphOf t) (take (k + 1) (pairsOf list)) → ⊥) × (Cycle (graphOf t) (take (k + 1) (pairsOf list)) → ⊥)
       one-more (no-clash, no-cycle) =
-          let clash : Clash (graphOf t) (take (k + 1) (pairsOf list)) → ⊥ = λ c.
-          passed-none clash-among (placeOf r) answered (k + 1) (clash-fault (omega arith) c no-clash no-cycle) in
-          (clash, λ c. passed-none cycle-among (placeOf r) answered (k + 1) (cycle-fault (omega arith) c clash no-clash no-cycle))
+          let clash : Clash (graphOf t) (take (k + 1) (pairsOf list)) → ⊥ = λ c. neither .0 (k + 1) (clash-fault (omega arith) c no-clash no-cycle) in
+          (clash, λ c. neither .1 .0 (k + 1) (cycle-fault (omega arith) c clash no-clash no-cycle))
 
   faultless : numberOf r ≡ 0 → (Clash (graphOf t) (pairsOf list) → ⊥) × (Cycle (graphOf t) (pairsOf list) → ⊥)
   faultless z =
@@ -174,15 +147,11 @@ module _ {t list class work : List ℕ} {r : Matched} {class-after work-after : 
 
   -- ---- refusals and their place
 
-  row-applied : (numberOf r ≡ 0 → ⊥) → (row : Row) × (number row ≡ numberOf r) × Fault (jobOf t list class work) row (placeOf r)
-  row-applied refused = applied (jobOf t list class work) matchOrder (numberOf r) (placeOf r) refused (m .answered)
-
   -- The answer is 10 at i + 1 exactly where the first i + 1 pairs have a clash and the first i neither clash nor cycle.
   pub clash-exactly-at : (i : ℕ) → ((numberOf r ≡ 10) × (placeOf r ≡ i + 1)) ↔ FirstClash (graphOf t) (pairsOf list) i
   clash-exactly-at i = (
     λ (e, q).
-        let row : (row : Row) × (number row ≡ numberOf r) × Fault (jobOf t list class work) row (placeOf r) = row-applied (λ z. omega arith) in
-        let shown : (j : ℕ) × (placeOf r ≡ j + 1) × FirstClash (graphOf t) (pairsOf list) j = clash-shown (row .1 ∙ e) (row .2) in
+        let shown : (j : ℕ) × (placeOf r ≡ j + 1) × FirstClash (graphOf t) (pairsOf list) j = clash-told (numberOf r) (placeOf r) e by-pairs in
         subst (FirstClash (graphOf t) (pairsOf list)) (let a : placeOf r ≡ shown .0 + 1 = shown .1 in omega arith) (shown .2),
     λ f. answered-as 10 (i + 1) (clash-answered passes i (f .within) (f .clash) (f .no-clash-before) (f .no-cycle-before)),
   )
@@ -191,8 +160,7 @@ module _ {t list class work : List ℕ} {r : Matched} {class-after work-after : 
   pub cycle-exactly-at : (i : ℕ) → ((numberOf r ≡ 11) × (placeOf r ≡ i + 1)) ↔ FirstCycle (graphOf t) (pairsOf list) i
   cycle-exactly-at i = (
     λ (e, q).
-        let row : (row : Row) × (number row ≡ numberOf r) × Fault (jobOf t list class work) row (placeOf r) = row-applied (λ z. omega arith) in
-        let shown : (j : ℕ) × (placeOf r ≡ j + 1) × FirstCycle (graphOf t) (pairsOf list) j = cycle-shown (row .1 ∙ e) (row .2) in
+        let shown : (j : ℕ) × (placeOf r ≡ j + 1) × FirstCycle (graphOf t) (pairsOf list) j = cycle-told (numberOf r) (placeOf r) e by-pairs in
         subst (FirstCycle (graphOf t) (pairsOf list)) (let a : placeOf r ≡ shown .0 + 1 = shown .1 in omega arith) (shown .2),
     λ f. answered-as 11 (i + 1) (cycle-answered passes i (i + 1) (f .within) (omega arith) (f .cycle) (f .no-cycle-before) (f .no-clash)),
   )
@@ -212,28 +180,19 @@ module _ {t list class work : List ℕ} {r : Matched} {class-after work-after : 
   -- A refusal stands at the first pair where the list so far cannot be met.
   refused-unmet : (numberOf r ≡ 10) ⊎ (numberOf r ≡ 11) → FirstUnmet (graphOf t) (pairsOf list) (placeOf r)
   refused-unmet (inl e) =
-      let row : (row : Row) × (number row ≡ numberOf r) × Fault (jobOf t list class work) row (placeOf r) = row-applied (λ z. omega arith) in
-      let shown : (i : ℕ) × (placeOf r ≡ i + 1) × FirstClash (graphOf t) (pairsOf list) i = clash-shown (row .1 ∙ e) (row .2) in
+      let shown : (i : ℕ) × (placeOf r ≡ i + 1) × FirstClash (graphOf t) (pairsOf list) i = clash-told (numberOf r) (placeOf r) e by-pairs in
       let f : FirstClash (graphOf t) (pairsOf list) (shown .0) = shown .2 in
       unmet-at (shown .0) (shown .1) (f .within) (λ met. unifier-no-clash (has .well-formed) (met .0) (met .1) (f .clash)) (f .no-clash-before) (f .no-cycle-before)
   refused-unmet (inr e) =
-      let row : (row : Row) × (number row ≡ numberOf r) × Fault (jobOf t list class work) row (placeOf r) = row-applied (λ z. omega arith) in
-      let shown : (i : ℕ) × (placeOf r ≡ i + 1) × FirstCycle (graphOf t) (pairsOf list) i = cycle-shown (row .1 ∙ e) (row .2) in
+      let shown : (i : ℕ) × (placeOf r ≡ i + 1) × FirstCycle (graphOf t) (pairsOf list) i = cycle-told (numberOf r) (placeOf r) e by-pairs in
       let f : FirstCycle (graphOf t) (pairsOf list) (shown .0) = shown .2 in
       unmet-at (shown .0) (shown .1) (f .within) (λ met. unifier-no-cycle (has .well-formed) (met .0) (met .1) (f .cycle))
       (f .no-clash-before)
       (f .no-cycle-before)
 
-  -- where rows 1 to 9 do not apply, the answer is 0, 10 or 11
-  which : Dec (numberOf r ≡ 0) → (numberOf r ≡ 0) ⊎ ((numberOf r ≡ 10) ⊎ (numberOf r ≡ 11))
-  which (yes z) = inl z
-  which (no z) =
-      let row : (row : Row) × (number row ≡ numberOf r) × Fault (jobOf t list class work) row (placeOf r) = row-applied z in
-      inr (⊎-elim (λ e. inl (sym (row .1) ∙ e)) (λ e. inr (sym (row .1) ∙ e)) (late-row (row .0) (λ h. passes (row .0) (placeOf r) h (row .2))))
-
   -- A list is refused at k exactly where k is the first pair at which the list so far cannot be met.
   pub refused-at-first : (k : ℕ) → (((numberOf r ≡ 10) ⊎ (numberOf r ≡ 11)) × (placeOf r ≡ k)) ↔ FirstUnmet (graphOf t) (pairsOf list) k
-  refused-at-first k = (λ h. subst (FirstUnmet (graphOf t) (pairsOf list)) (h .1) (refused-unmet (h .0)), λ f. from f (which (ℕ-discrete (numberOf r) 0)))
+  refused-at-first k = (λ h. subst (FirstUnmet (graphOf t) (pairsOf list)) (h .1) (refused-unmet (h .0)), λ f. from f (which (numberOf r) (placeOf r) by-pairs))
     where
       from : FirstUnmet (graphOf t) (pairsOf list) k → (numberOf r ≡ 0) ⊎ ((numberOf r ≡ 10) ⊎ (numberOf r ≡ 11)) → ((numberOf r ≡ 10) ⊎ (numberOf r ≡ 11)) × (placeOf r ≡ k)
       from f (inl z) = absurd (f .unmet (fewer-met (graphOf t) (list-so-far passes k) (accepted-exactly .0 z)))

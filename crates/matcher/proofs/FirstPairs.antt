@@ -10,14 +10,13 @@ use lib.ListN.{length, take, drop}
 use lib.Seq.{take-take, length-take-le}
 use Rattle.words.specs.declared.numbers.PairNumber.{PairNumber}
 use Rattle.rows.proofs.Laws.{behind-stays, behind-cleared}
+use Rattle.answering.specs.Buffers.{zeroed}
 use Rattle.graphs.specs.Graph.{Symbols, Graph}
-use Rattle.graphs.specs.Partition.{Pair, Sides, Clash, ClassTable, apart}
+use Rattle.graphs.specs.Partition.{Pair, pairsOf, Sides, Clash, ClassTable, apart}
 use Rattle.graphs.proofs.Theorems.{no-pairs-no-clash}
 use Rattle.graphs.proofs.Classes.{never, clash-grows, first-pairs-grow}
 use Rattle.table.specs.Table.{graphOf}
-use Rattle.table.specs.Faults.{pairsOf}
 use Rattle.table.proofs.Pairs.{pairsOf-take}
-use Rattle.checker.specs.Check.{zeroed}
 use Rattle.classes.specs.declared.joining.Joined.{Joined}
 use Rattle.classes.specs.Joining.{Joinable, ByOutcome, JoinOf}
 use Rattle.classes.proofs.OwnClasses.{apart-front, apart-long}

@@ -4,7 +4,6 @@
 -- `accepted-verdict`). Assumes nothing.
 use mathlib.Core.Path.{_≡_, refl, sym, ap, _∙_, subst}
 use mathlib.Core.Bool.{Bool, true, false, _&&_}
-use mathlib.Core.Logic.{inl, inr}
 use mathlib.Core.List.{List, _++_}
 use Prim.Native.Nat.{ℕ, zero, suc, _+_, _-_, _≤_, _<_}
 use native.Mathlib.Omega.{arith}
@@ -12,13 +11,13 @@ use lib.Dec.{eqb}
 use lib.ListN.{length, take, drop, replicate, take-append-drop}
 use lib.Seq.{take-all, getD-take}
 use Rattle.words.specs.declared.numbers.PairNumber.{PairNumber}
-use Rattle.graphs.specs.Partition.{Pair, Clash, Cycle, ClassTable, isNode, nodes, classes, joins}
+use Rattle.answering.specs.Answers.{Answered}
+use Rattle.answering.specs.Buffers.{zeroed, changesNothing}
+use Rattle.graphs.specs.Partition.{Pair, pairsOf, Clash, Cycle, ClassTable, isNode, nodes, classes, joins}
 use Rattle.graphs.proofs.Theorems.{no-pairs-no-cycle}
 use Rattle.graphs.proofs.Classes.{clash-grows, first-pairs-grow}
 use Rattle.table.specs.Table.{graphOf}
-use Rattle.table.specs.Answers.{Answered}
-use Rattle.table.specs.Faults.{pairsOf, Fault, number, matchOrder}
-use Rattle.checker.specs.Check.{zeroed}
+use Rattle.table.specs.Faults.{Fault, number, matchOrder}
 use Rattle.cycles.specs.Digraph.{Searchable, Searched}
 use Rattle.classes.specs.declared.joining.Joined.{Joined}
 use Rattle.classes.specs.Counting.{NamesNodes}
@@ -129,12 +128,13 @@ cleared-row t class class-mid k e = e ∙ ap (λ (rest : List ℕ). replicate (l
 module _ {t list class work : List ℕ} (passes : Passes (jobOf t list class work)) where
   pub cycle-verdict : {class-mid work-mid class-after : List ℕ} {all found : ℕ} → Clashless t list all → CycleAt t list class work all found class-mid work-mid
       → class-after ≡ replicate (length t) 0 ++ drop (length t) class-mid → (at : PairNumber) → at .0 ≡ found → Verdict t list class work (Matched.Cycle at) class-after work-mid
+  unfolding changesNothing
   cycle-verdict {all = all} few c e at n =
       let place : at .0 ≡ c .place + 1 = n ∙ c .numbers in
       record {
         answered = subst (λ (p : ℕ). Answered number (Fault (jobOf t list class work)) matchOrder 11 p) (sym place)
             (cycle-answered passes (c .place) all (omega (arith, few .inside, c .within, c .numbers)) (omega (arith, c .within, c .numbers)) (c .cycle) (c .none-before) (few .no-clash));
-        late = inr (omega arith);
+        late = refl;
         bound = λ z. absurd (omega arith);
         refused = λ z. cleared-row t class _ (c .lent .class-behind) e;
         work-same = c .lent .work-same;
@@ -150,22 +150,24 @@ module _ {t list class work : List ℕ} (passes : Passes (jobOf t list class wor
 
     pub clash-verdict : {class-after : List ℕ} → m < length (pairsOf list) → class-after ≡ replicate (length t) 0 ++ drop (length t) class-mid → (at : PairNumber) → at .0 ≡ m + 1
         → Verdict t list class work (Matched.Clash at) class-after work-after
+    unfolding changesNothing
     clash-verdict h e at n =
         record {
           answered = subst (λ (p : ℕ). Answered number (Fault (jobOf t list class work)) matchOrder 10 p) (sym n)
               (clash-answered passes m h (until .next h) (until .partitioned .no-clash) no-cycle);
-          late = inr (omega arith);
+          late = refl;
           bound = λ z. absurd (omega arith);
           refused = λ z. cleared-row t class _ (until .lent .class-behind) e;
           work-same = work-kept;
         }
 
-    pub accepted-verdict : length (pairsOf list) ≤ m → {joined : ℕ} → joined ≡ joins (graphOf t) class-mid → Verdict t list class work (Matched.Accepted joined) class-mid work-after
+    pub accepted-verdict : length (pairsOf list) ≤ m → {joined : ℕ} → joined ≡ joins (graphOf t) class-mid → Verdict t list class work (Matched.Accepted (record { joins = joined })) class-mid work-after
+    unfolding changesNothing
     accepted-verdict h {joined} e =
         let whole : take m (pairsOf list) ≡ pairsOf list = take-all m (pairsOf list) h in
         record {
           answered = accepted-answered passes (subst (λ (p : List Pair). Clash (graphOf t) p → ⊥) whole (until .partitioned .no-clash)) (subst (λ (p : List Pair). Cycle (graphOf t) p → ⊥) whole no-cycle);
-          late = inl refl;
+          late = refl;
           bound = λ z.
               record {
                 table = take (length t) class-mid;

@@ -6,8 +6,9 @@ use mathlib.Core.List.{List, [], _∷_}
 use Prim.Native.Nat.{ℕ, _+_, _*_, _/_, _%_, _<_}
 use native.Mathlib.Omega.{arith}
 use lib.ListN.{length, getD}
+use Rattle.graphs.specs.Partition.{pairsOf}
 use Rattle.table.specs.Table.{kindAt, nodeKind}
-use Rattle.table.specs.Faults.{pairsOf, pairAt, odd, badSides}
+use Rattle.table.specs.Faults.{pairAt, odd, badSides}
 use Rattle.table.proofs.Pairs.{length-pairsOf, length-pairsOf-over, pairAt-entries}
 
 pub odd-entries : (list : List ℕ) → length list % 2 ≡ 1 → odd list ≡ true

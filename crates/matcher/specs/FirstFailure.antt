@@ -1,20 +1,19 @@
 -- What the steps that look for the first clash or cycle promise each other. For this crate alone. Assumes nothing.
 use mathlib.Core.Path.{_≡_}
-use mathlib.Core.Bool.{Bool}
-use mathlib.Core.Logic.{_⊎_}
+use mathlib.Core.Bool.{Bool, false}
 use mathlib.Core.List.{List}
 use Prim.Native.Nat.{ℕ, _+_, _*_, _≤_, _<_}
 use lib.ListN.{length, take, drop}
 use Rattle.words.specs.declared.numbers.PairNumber.{PairNumber}
-use Rattle.graphs.specs.Partition.{Clash, Cycle, ClassTable}
-use Rattle.table.specs.Answers.{Answered}
+use Rattle.answering.specs.Answers.{Answered, NoneOf}
+use Rattle.answering.specs.Buffers.{zeroed, changesNothing}
+use Rattle.graphs.specs.Partition.{pairsOf, Clash, Cycle, ClassTable}
 use Rattle.table.specs.Table.{graphOf}
-use Rattle.table.specs.Faults.{pairsOf, Fault, number, matchOrder}
-use Rattle.checker.specs.Check.{zeroed}
+use Rattle.table.specs.Faults.{Fault, number, checkOrder, matchOrder}
 use Rattle.classes.specs.declared.joining.Joined.{Joined}
 use Rattle.matcher.specs.declared.answer.Matched.{Matched}
 use Rattle.matcher.specs.Match.{numberOf, placeOf, joinsOf, Bound, jobOf}
-use Rattle.matcher.specs.Stages.{Cycles, ClearTo, Ready}
+use Rattle.matcher.specs.Stages.{Cycles, Ready}
 
 -- A job that passes all checks, and a work row whose entries that are used are 0.
 pub record Standing (t list class work : List ℕ) : Type 0 where
@@ -23,7 +22,7 @@ pub record Standing (t list class work : List ℕ) : Type 0 where
 
 -- A table that passed its check, with rows whose entries in use are 0.
 pub record TablePassed (t list class work : List ℕ) : Type 0 where
-  pub clear : ClearTo 7 (jobOf t list class work)
+  pub clear : NoneOf (Fault (jobOf t list class work)) checkOrder
   pub class-clean : zeroed (length t) class ≡ class
   pub work-clean : zeroed (2 * length t) work ≡ work
 
@@ -77,7 +76,7 @@ pub record CycleAt (t list class work : List ℕ) (many found : ℕ) (class-afte
 -- An answer of 0 or from 3 on, with what it leaves of class and work rows whose entries in use were 0.
 pub record Verdict (t list class work : List ℕ) (answer : Matched) (class-after work-after : List ℕ) : Type 0 where
   pub answered : Answered number (Fault (jobOf t list class work)) matchOrder (numberOf answer) (placeOf answer)
-  pub late : (numberOf answer ≡ 0) ⊎ (3 ≤ numberOf answer)
+  pub late : changesNothing (numberOf answer) ≡ false
   pub bound : numberOf answer ≡ 0 → Bound t list class class-after (joinsOf answer)
   pub refused : (numberOf answer ≡ 0 → ⊥) → class-after ≡ zeroed (length t) class
   pub work-same : work-after ≡ work

@@ -6,12 +6,10 @@ use mathlib.Core.List.{List}
 use Prim.Native.Nat.{ℕ, _*_, _≤_, _<_}
 use lib.ListN.{length}
 use Rattle.graphs.specs.Graph.{Symbols, Graph, WellFormed}
-use Rattle.graphs.specs.Partition.{Pair, Sides, Cycle}
+use Rattle.graphs.specs.Partition.{Pair, pairsOf, Sides, Cycle}
 use Rattle.table.specs.Table.{graphOf}
-use Rattle.table.specs.Faults.{Job, pairsOf, odd, Row, Fault, number}
+use Rattle.table.specs.Faults.{Job, odd}
 use Rattle.table.specs.Shaped.{Shaped}
-use Rattle.checker.specs.declared.answer.Checked.{Checked}
-use Rattle.matcher.specs.declared.answer.Matched.{Matched}
 
 -- "odd number of entries, or over 512", or neither
 abbrev pub BadList : Bool → List ℕ → Type 0
@@ -22,10 +20,6 @@ BadList false list = (odd list ≡ false) × (length list ≤ 512)
 abbrev pub Cycles : {S : Symbols} → Bool → Graph S → List Pair → Type 0
 Cycles true G pairs = Cycle G pairs
 Cycles false G pairs = Cycle G pairs → ⊥
-
--- None of the rows 1 to k applies. A job that passes all checks is clear of the rows to 9.
-abbrev pub ClearTo : ℕ → Job → Type 0
-ClearTo k job = (row : Row) (place : ℕ) → number row ≤ k → Fault job row place → ⊥
 
 -- What a job has that passes all checks.
 pub record Ready (job : Job) : Type 0 where
@@ -38,15 +32,3 @@ pub record Ready (job : Job) : Type 0 where
   pub even : odd (job .list) ≡ false
   pub few : length (job .list) ≤ 512
   pub sides : Sides (graphOf (job .table)) (pairsOf (job .list))
-
--- What the table check refuses, a match refuses with the same number and place. The check's 0 is no answer of a match; the list
--- is still to be looked at.
-abbrev pub asMatched : Checked → Matched
-asMatched Checked.Accepted = Matched.Accepted 0
-asMatched Checked.Size = Matched.Size
-asMatched Checked.Room = Matched.Room
-asMatched (Checked.Word a) = Matched.Word a
-asMatched (Checked.Layout a) = Matched.Layout a
-asMatched (Checked.Pointer a) = Matched.Pointer a
-asMatched (Checked.Name a) = Matched.Name a
-asMatched Checked.Loop = Matched.Loop

@@ -6,11 +6,11 @@
 // none, and each half is joined afresh. That takes at most nine searches for 256 pairs.
 ghost use Prim.Native.Nat.{_≤_};
 ghost use lib.ListN.{length, take};
-ghost use Rattle.graphs.specs.Partition.{Cycle};
+ghost use Rattle.graphs.specs.Partition.{pairsOf, Cycle};
 ghost use Rattle.table.specs.Table.{graphOf};
-ghost use Rattle.table.specs.Faults.{pairsOf};
 ghost use Rattle.matcher.specs.Match.{jobOf, Passes};
 ghost use Rattle.matcher.specs.FirstFailure.{Standing, JoinsFirst, UntilClash, Clashless, TellsCycle, CycleAt, Verdict};
+use crate::answer::Counts;
 use crate::answer::Matched;
 use classes::joining::Joined;
 use words::numbers::PairNumber;
@@ -96,5 +96,6 @@ pub(crate) fn unify(table: &[u32], list: &[u16], class: &mut [u16], work: &mut [
         rows::clear16(class, n);
         return Matched::Clash(PairNumber((joined + 1) as u16));
     }
-    Matched::Accepted(classes::count_joins(table, class))
+    let joins = classes::count_joins(table, class);
+    Matched::Accepted(Counts { joins })
 }

@@ -42,12 +42,6 @@ pub fn match_list(table: &[u32], list: &[u16], class: &mut [u16], work: &mut [u1
 {
     match checker::check(table, class, work) {
         Checked::Accepted => match_checked(table, list, class, work),
-        Checked::Size => Matched::Size,
-        Checked::Room => Matched::Room,
-        Checked::Word(at) => Matched::Word(at),
-        Checked::Layout(at) => Matched::Layout(at),
-        Checked::Pointer(at) => Matched::Pointer(at),
-        Checked::Name(at) => Matched::Name(at),
-        Checked::Loop => Matched::Loop,
+        Checked::Refused(wrong) => Matched::Table(wrong),
     }
 }

@@ -2,8 +2,9 @@
 ghost use mathlib.Core.Path.{_≡_};
 ghost use Prim.Native.Nat.{_<_};
 ghost use lib.ListN.{length};
-ghost use Rattle.table.specs.Answers.{First};
-ghost use Rattle.table.specs.Faults.{pairsOf, pairAt, badSides};
+ghost use Rattle.graphs.specs.Partition.{pairsOf};
+ghost use Rattle.answering.specs.Answers.{First};
+ghost use Rattle.table.specs.Faults.{pairAt, badSides};
 ghost use Rattle.matcher.specs.Stages.{BadList};
 use table::node;
 use words::numbers::Address;

@@ -10,7 +10,7 @@ use mathlib.Core.Bool.{Bool, true, false}
 use Prim.Native.Nat.{ℕ, _+_, _≤_, _<_}
 use native.Mathlib.Omega.{arith}
 use borrow.Author.Count.{below-more}
-use Rattle.table.specs.Answers.{First}
+use Rattle.answering.specs.Answers.{First}
 
 pub record Passed (test : ℕ → Bool) (n i : ℕ) : Type 0 where
   pub within : i ≤ n

@@ -2,7 +2,7 @@
 ghost use mathlib.Core.Path.{_≡_};
 ghost use Prim.Native.Nat.{_<_};
 ghost use lib.ListN.{length};
-ghost use Rattle.table.specs.Answers.{First};
+ghost use Rattle.answering.specs.Answers.{First};
 ghost use Rattle.table.specs.Faults.{badTarget, badPointer};
 use words::kind::Kind;
 use words::numbers::Address;

@@ -3,7 +3,7 @@
 ghost use mathlib.Core.Path.{_≡_};
 ghost use Prim.Native.Nat.{_<_};
 ghost use lib.ListN.{length};
-ghost use Rattle.table.specs.Answers.{First};
+ghost use Rattle.answering.specs.Answers.{First};
 ghost use Rattle.table.specs.Faults.{badKind, badWord};
 use words::kind::Kind;
 use words::word;

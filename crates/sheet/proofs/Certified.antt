@@ -11,11 +11,11 @@ use lib.ListN.{length, take, drop}
 use Rattle.words.specs.Word.{sameKind}
 use Rattle.words.specs.declared.kind.Kind.{Kind}
 use Rattle.graphs.specs.Graph.{Symbols, Graph}
-use Rattle.graphs.specs.Partition.{Pair, joins}
+use Rattle.graphs.specs.Partition.{Pair, pairsOf, joins}
 use Rattle.graphs.specs.Log.{_and_, Join, counts, Replayed, falseAt, ends, replay, allBelow, closed, ranked, clashes, Down, cycles, loops}
 use Rattle.table.specs.Table.{TableSymbols, kindAt, contentAt, graphOf}
 use Rattle.table.specs.Layout.{item, breakFrom}
-use Rattle.table.specs.Faults.{badWord, badPointer, pairsOf, odd, badSides, pairAt}
+use Rattle.table.specs.Faults.{badWord, badPointer, odd, badSides, pairAt}
 use Rattle.sheet.specs.Sheet.{Example}
 
 -- ---- the test of a table

@@ -1,10 +1,10 @@
 -- What a row holds that passes by a certificate: `passes-holds`, and of a whole list, `all-pass-hold`.
 --
--- In order: tests and what they show; the table; rows that do not apply (`clear`); the row by each certificate. Assumes nothing.
+-- In order: tests and what they show; the table; rows that do not apply (`clear`, `clear-all`); the row by each certificate. Assumes nothing.
 use mathlib.Core.Path.{_≡_, refl, sym, ap, _∙_, subst}
 use mathlib.Core.Bool.{Bool, true, false, not}
-use mathlib.Core.Logic.{inl, inr, ⊎-elim}
-use mathlib.Core.List.{List, [], _∷_, List·Memᴰ, List·Memᴰ·head, List·Memᴰ·tail}
+use mathlib.Core.Logic.{inl, ⊎-elim}
+use mathlib.Core.List.{List, [], _∷_, _++_, List·Memᴰ, List·Memᴰ·head, List·Memᴰ·tail}
 use mathlib.Core.Option.{Option, none, some}
 use Prim.Native.Nat.{ℕ, _+_, _*_, _≤_, _<_}
 use native.Mathlib.Omega.{arith}
@@ -13,21 +13,22 @@ use lib.Dec.{eqb}
 use lib.ListN.{length, take, drop}
 use Rattle.words.specs.Word.{sameKind}
 use Rattle.words.specs.declared.kind.Kind.{Kind}
+use Rattle.answering.specs.Answers.{Answered, NoneOf}
+use Rattle.answering.proofs.Orders.{none-first, none-both}
 use Rattle.graphs.specs.Graph.{Symbols, Graph, Child, Steps, WellFormed}
-use Rattle.graphs.specs.Partition.{Pair, Sides, Clash, Cycle, ClassTable, joins}
+use Rattle.graphs.specs.Partition.{Pair, pairsOf, Sides, Clash, Cycle, ClassTable, joins}
 use Rattle.graphs.specs.Log.{_and_, counts, Join, Replayed, falseAt, ends, replay, allBelow, closed, ranked, clashes, Down, cycles, loops}
 use Rattle.graphs.proofs.Classes.{never}
 use Rattle.graphs.proofs.Replay.{both-true, all-below}
 use Rattle.graphs.proofs.Theorems.{log-class-table, log-no-clash, log-no-cycle, log-clash, log-cycle, ranks-no-loop, ways-loop}
 use Rattle.table.specs.Table.{kindAt, contentAt, nodeKind, graphOf}
 use Rattle.table.specs.Layout.{item, breakFrom}
-use Rattle.table.specs.Answers.{Answered}
-use Rattle.table.specs.Faults.{Job, badWord, badPointer, Repeats, pairsOf, odd, badSides, pairAt, SIZE, ROOM, WORD, LAYOUT, POINTER, NAME, number, Fault, size-fault, room-fault, word-fault, layout-fault, pointer-fault, name-fault, loop-fault, list-fault, address-fault, clash-fault, cycle-fault, matchOrder}
+use Rattle.table.specs.Faults.{Job, badWord, badPointer, Repeats, odd, badSides, pairAt, Row, SIZE, ROOM, NAME, LOOP, LIST, ADDRESS, number, Fault, size-fault, room-fault, name-fault, loop-fault, list-fault, address-fault, sizeRows, shapeRows, listRows, pairRows, matchOrder}
 use Rattle.table.specs.Shaped.{Shaped}
 use Rattle.table.proofs.Children.{node-kind}
 use Rattle.table.proofs.Shape.{inside-kind}
+use Rattle.checker.proofs.Stages.{shaped-none}
 use Rattle.matcher.specs.Match.{Passes}
-use Rattle.matcher.specs.Stages.{ClearTo}
 use Rattle.matcher.proofs.Verdicts.{ready, list-so-far, accepted-answered, clash-answered, cycle-answered}
 use Rattle.sheet.specs.Sheet.{Example, jobWith, Holds}
 use Rattle.sheet.proofs.Certified.{isNone, repeatsAt, goodTable, goodList, Settled, Certificate, loop, settles, clash, cycle, endsIn, settled, sameRow, answers, nothingMade, graphIn, pairsIn, makes, settledBefore, passes, allPass}
@@ -108,26 +109,38 @@ good-list t list e = (
   λ k h. fails (all-below (λ j. not (badSides t (pairAt (pairsOf list) j))) (length (pairsOf list)) (both-true (both-true e .1) .1) k h),
 )
 
-module _ (e : Example) (class-room work-room : ℕ) (class-enough : length (e .table) ≤ class-room) (work-enough : 4 * length (e .table) ≤ work-room) (sent : Sent (e .table)) where
-  -- None of the rows 1 to k applies, for a k up to 9.
-  clear : (k : ℕ) → k ≤ 9 → (7 ≤ k → (x : ℕ) → Steps (Child (graphIn e)) x x → ⊥) → (8 ≤ k → goodList (e .table) (e .list) ≡ true) → ClearTo k (jobWith e class-room work-room)
-  unfolding number
-  clear k top no-loop list row p h (size-fault x) = ⊎-elim (λ z. omega (arith, sent .shaped .some-word)) (λ z. omega (arith, sent .small)) x
-  clear k top no-loop list row p h (room-fault x) = ⊎-elim (λ z. omega arith) (λ z. omega arith) x
-  clear k top no-loop list row p h (word-fault l) = sent .shaped .words p (l .has .0) (l .has .1)
-  clear k top no-loop list row p h (layout-fault q) =
-      let w : breakFrom item 1 (drop 1 (e .table)) ≡ none = sent .shaped .whole in
-      let b : breakFrom item 1 (drop 1 (e .table)) ≡ some p = q in
-      never (cc)
-  clear k top no-loop list row p h (pointer-fault l) = sent .shaped .pointers p (l .has .0) (l .has .1)
-  clear k top no-loop list row p h (name-fault l) = sent .names p (l .has)
-  clear k top no-loop list row p h (loop-fault x s) = no-loop h x s
-  clear k top no-loop list row p h (list-fault x) =
-      let good : (odd (e .list) ≡ false) × (length (e .list) ≤ 512) × ((k : ℕ) → k < length (pairsIn e) → badSides (e .table) (pairAt (pairsIn e) k) ≡ true → ⊥) = good-list (e .table) (e .list) (list h) in
-      ⊎-elim (λ o. let v : odd (e .list) ≡ true = o in let u : odd (e .list) ≡ false = good .0 in never (cc)) (λ l. omega (arith, good .1)) x
-  clear k top no-loop list row p h (address-fault {i} l) = good-list (e .table) (e .list) (list (omega arith)) .2 i (l .has .0) (l .has .1)
-  clear k top no-loop list row p h (clash-fault i c n m) = omega arith
-  clear k top no-loop list row p h (cycle-fault i c f n m) = omega arith
+-- the rows 1 to 6
+abbrev beforeLoop : List Row
+beforeLoop = sizeRows ++ shapeRows ++ (NAME ∷ [])
+
+module _ (e : Example) (class-room work-room : ℕ) (class-enough : length (e .table) ≤ class-room) (work-enough : 4 * length (e .table) ≤ work-room) (good : Sent (e .table)) where
+  -- none of the rows 1 to 6 applies ..
+  clear : NoneOf (Fault (jobWith e class-room work-room)) beforeLoop
+  clear = none-both (Fault (jobWith e class-room work-room)) (sizeRows ++ shapeRows) (NAME ∷ []) (none-both (Fault (jobWith e class-room work-room)) sizeRows shapeRows (size, (room, tt)) (shaped-none (good .shaped))) (name, tt)
+    where
+      size : (p : ℕ) → Fault (jobWith e class-room work-room) SIZE p → ⊥
+      size p (size-fault x) = ⊎-elim (λ z. omega (arith, good .shaped .some-word)) (λ z. omega (arith, good .small)) x
+
+      room : (p : ℕ) → Fault (jobWith e class-room work-room) ROOM p → ⊥
+      room p (room-fault x) = ⊎-elim (λ z. omega arith) (λ z. omega arith) x
+
+      name : (p : ℕ) → Fault (jobWith e class-room work-room) NAME p → ⊥
+      name p (name-fault l) = good .names p (l .has)
+
+  -- .. nor, with no loop and a list that passes its test, those to 9
+  clear-all : ((x : ℕ) → Steps (Child (graphIn e)) x x → ⊥) → goodList (e .table) (e .list) ≡ true → Passes (jobWith e class-room work-room)
+  clear-all no-loop list = none-both (Fault (jobWith e class-room work-room)) beforeLoop (LOOP ∷ listRows) clear (loops-none, (lists-none, (sides-none, tt)))
+    where
+      loops-none : (p : ℕ) → Fault (jobWith e class-room work-room) LOOP p → ⊥
+      loops-none p (loop-fault x s) = no-loop x s
+
+      lists-none : (p : ℕ) → Fault (jobWith e class-room work-room) LIST p → ⊥
+      lists-none p (list-fault x) =
+          let even : odd (e .list) ≡ false = good-list (e .table) (e .list) list .0 in
+          ⊎-elim (λ o. let v : odd (e .list) ≡ true = o in never (cc)) (λ l. omega (arith, good-list (e .table) (e .list) list .1)) x
+
+      sides-none : (p : ℕ) → Fault (jobWith e class-room work-room) ADDRESS p → ⊥
+      sides-none p (address-fault {i} l) = good-list (e .table) (e .list) list .2 i (l .has .0) (l .has .1)
 
 -- ---- the answer, place, entries and joins
 
@@ -147,10 +160,9 @@ none-made e t = (same-row (e .entries) [] (both-true t .0), eqb-true (e .joins) 
 
 -- ---- a loop
 
-loop-answered : (job : Job) → ClearTo 6 job → (x : ℕ) → Steps (Child (graphOf (job .table))) x x → Answered number (Fault job) matchOrder 7 0
+loop-answered : (job : Job) → NoneOf (Fault job) beforeLoop → (x : ℕ) → Steps (Child (graphOf (job .table))) x x → Answered number (Fault job) matchOrder 7 0
 unfolding number
-loop-answered job free x s =
-    inr (λ q. free SIZE q (omega arith), inr (λ q. free ROOM q (omega arith), inr (λ q. free WORD q (omega arith), inr (λ q. free LAYOUT q (omega arith), inr (λ q. free POINTER q (omega arith), inr (λ q. free NAME q (omega arith), inl (refl, loop-fault x s)))))))
+loop-answered job free x s = none-first number (Fault job) beforeLoop (LOOP ∷ (listRows ++ pairRows)) 7 0 free (inl (refl, loop-fault x s))
 
 -- ---- a settled list
 
@@ -181,7 +193,7 @@ no-loop-in e = ranks-no-loop (λ x n. inside-kind (e .table) x nodeKind refl (no
 
 module _ (e : Example) (sent : Sent (e .table)) (list : goodList (e .table) (e .list) ≡ true) (no-loop : (x : ℕ) → Steps (Child (graphIn e)) x x → ⊥) where
   all-clear : (class-room work-room : ℕ) → length (e .table) ≤ class-room → 4 * length (e .table) ≤ work-room → Passes (jobWith e class-room work-room)
-  all-clear c w class-enough work-enough = clear e c w class-enough work-enough sent 9 (omega arith) (λ h. no-loop) (λ h. list)
+  all-clear c w class-enough work-enough = clear-all e c w class-enough work-enough sent no-loop list
 
   least : Passes (jobWith e (length (e .table)) (4 * length (e .table)))
   least = all-clear (length (e .table)) (4 * length (e .table)) (omega arith) (omega arith)
@@ -286,7 +298,7 @@ passes-holds e (loop ways) t =
     let found : (x : ℕ) × Steps (Child (graphIn e)) x x = ways-loop ways (rest .1) in
     refused-holds e 7 0 (omega arith) (both-true t .0) (rest .0)
     (λ c w class-enough work-enough.
-    loop-answered (jobWith e c w) (clear e c w class-enough work-enough sent 6 (omega arith) (λ h. absurd (omega arith)) (λ h. absurd (omega arith))) (found .0) (found .1))
+    loop-answered (jobWith e c w) (clear e c w class-enough work-enough sent) (found .0) (found .1))
 passes-holds e (settles s) t =
     let sent : Sent (e .table) = good-sent (e .table) (both-true (both-true t .1) .0) in
     let rest : (goodList (e .table) (e .list) ≡ true) × (settled (graphIn e) (pairsIn e) s (makes e) ≡ true) = both-true (both-true (both-true t .1) .1) in

@@ -11,13 +11,14 @@ use native.Mathlib.Decide.{ℕ-discrete}
 use lib.ListN.{length, take, drop}
 use lib.Seq.{take-at}
 use Rattle.words.specs.Word.{kindOf}
-use Rattle.graphs.specs.Partition.{isNode, bit, count, nodes, classes, joins, keyOf, key, apartFrom, apart}
+use Rattle.answering.proofs.Orders.{answered-only}
+use Rattle.graphs.specs.Partition.{pairsOf, isNode, bit, count, nodes, classes, joins, keyOf, key, apartFrom, apart}
 use Rattle.graphs.specs.Log.{_and_, _or_, Join, given, children, childrenBeside, childrenOf, grounded, isTrue, renamed, merged, ifTrue, replayFrom, replay, allBelow, holdsPairs, sameNames, agreesWith, agrees, closed, ranksFall, ranksFallAt, ranked, differFrom, differ, clashes, Down, isAmong, isBelow, leads, cycles, leadsDown, loops}
 use Rattle.graphs.proofs.Theorems.{class-table-only}
 use Rattle.table.specs.Table.{graphOf, choose, symbol-decide, named, namedFrom, headOf}
 use Rattle.table.specs.Layout.{canStand, after, atEnd, breakFrom}
-use Rattle.table.specs.Faults.{badKind, badLater, badTarget, pairsOf, odd, number, Fault, matchOrder}
-use Rattle.table.proofs.OneAnswer.{answered-only, fault-once}
+use Rattle.table.specs.Faults.{badKind, badLater, badTarget, odd, number, Fault, matchOrder}
+use Rattle.table.proofs.OneAnswer.{fault-once}
 use Rattle.matcher.specs.declared.answer.Matched.{Matched}
 use Rattle.matcher.specs.Match.{numberOf, placeOf, joinsOf, Bound, jobOf, MatchOf}
 use Rattle.matcher.proofs.OneMatch.{refused-joins}

@@ -6,8 +6,8 @@
 -- be lent to it. The sentences quoted are document 01's. Assumes nothing.
 use mathlib.Core.Path.{_≡_, refl, sym, ap, _∙_, subst}
 use mathlib.Core.Bool.{Bool, true}
-use mathlib.Core.List.{List, [], _∷_, List·Memᴰ, List·Memᴰ·head, List·Memᴰ·tail}
-use Prim.Native.Nat.{ℕ, _*_, _≤_, _<_}
+use mathlib.Core.List.{List, [], _∷_, _++_, List·Memᴰ, List·Memᴰ·head, List·Memᴰ·tail}
+use Prim.Native.Nat.{ℕ, zero, suc, _*_, _≤_, _<_}
 use native.Mathlib.Omega.{arith}
 use borrow.Author.Tests.{ltb-true}
 use lib.Dec.{ltb}
@@ -15,22 +15,22 @@ use lib.ListN.{length, getD, take, replicate, length-replicate, getD-replicate}
 use lib.Seq.{getD-take}
 use Rattle.rows.proofs.Laws.{cleared-zero}
 use Rattle.words.specs.Word.{kindOf}
-use Rattle.graphs.specs.Partition.{ClassTable, joins}
+use Rattle.answering.specs.Answers.{Answered}
+use Rattle.answering.specs.Buffers.{zeroed}
+use Rattle.answering.proofs.Orders.{passed-none, none-parts}
+use Rattle.graphs.specs.Partition.{pairsOf, ClassTable, joins}
 use Rattle.graphs.specs.Term.{Term, Terms, var, app, apply, applyAll, each, grown, tree, below, Unifies, answer}
 use Rattle.graphs.specs.Log.{_and_, allBelow}
 use Rattle.graphs.proofs.Classes.{never}
 use Rattle.graphs.proofs.Replay.{both-true, all-below}
 use Rattle.graphs.proofs.Theorems.{class-table-only}
 use Rattle.table.specs.Table.{TableSymbols, symbolWith, graphOf, headOf}
-use Rattle.table.specs.Answers.{Answered}
-use Rattle.table.specs.Faults.{Job, pairsOf, Row, SIZE, ROOM, WORD, LAYOUT, POINTER, NAME, LOOP, LIST, ADDRESS, CLASH, CYCLE, number, Fault, matchOrder}
-use Rattle.checker.specs.Check.{zeroed}
+use Rattle.table.specs.Faults.{Job, number, Fault, checkOrder, listRows, pairRows, matchOrder}
 use Rattle.matcher.specs.declared.answer.Matched.{Matched}
 use Rattle.matcher.specs.Match.{numberOf, placeOf, joinsOf, jobOf, Passes}
 use Rattle.matcher.specs.Demands.{Met}
-use Rattle.matcher.proofs.Verdicts.{passed-none}
 use Rattle.matcher.proofs.Demands.{accepted-exactly, answer-makes-equal}
-use Rattle.sheet.specs.Sheet.{Example, accepted, refused, exampleA, exampleC, examples}
+use Rattle.sheet.specs.Sheet.{Example, refused, exampleC, examples}
 use Rattle.sheet.specs.Matcher.{Matcher, Below, Lent, Meets, Gives}
 use Rattle.sheet.proofs.Theorems.{sheet-holds, sheet-matched}
 
@@ -85,30 +85,42 @@ at-row m meets e row =
 entry-at : {e : Example} {r : Matched} {class-after : List ℕ} → Gives e r class-after → e .answer ≡ 0 → (x : ℕ) → x < length (e .table) → getD class-after x 0 ≡ getD (e .entries) x 0
 entry-at {e} {r} {class-after} g z x h = sym (getD-take (length (e .table)) class-after x 0 h) ∙ ap (λ (row : List ℕ). getD row x 0) (g .the-entries z)
 
+-- the row at a place, from 0, and that it is one
+abbrev rowAt : ℕ → Example
+rowAt k = getD examples k (refused [] [] 0 0)
+
+there : (es : List Example) (k : ℕ) (d : Example) → k < length es → List·Memᴰ (getD es k d) es
+there [] k d h = absurd (omega arith)
+there (e ∷ es) zero d h = List·Memᴰ·head refl
+there (e ∷ es) (suc k) d h = List·Memᴰ·tail (there es k d (omega arith))
+
+is-row : (k : ℕ) → k < 11 → List·Memᴰ (rowAt k) examples
+is-row k h = there examples k (refused [] [] 0 0) h
+
 -- the rows that show it
 abbrev p1 : Example
-p1 = accepted exampleA (1 ∷ 9 ∷ []) (0 ∷ 1 ∷ 0 ∷ 11 ∷ 6 ∷ 0 ∷ 6 ∷ 0 ∷ 0 ∷ 1 ∷ 0 ∷ 11 ∷ 0 ∷ 0 ∷ 6 ∷ 0 ∷ 11 ∷ []) 5
+p1 = rowAt 0
 
 abbrev p4 : Example
-p4 = accepted exampleC (3 ∷ 1 ∷ []) (0 ∷ 1 ∷ 2 ∷ 1 ∷ []) 1
+p4 = rowAt 3
 
 abbrev p5 : Example
-p5 = refused exampleC (3 ∷ 1 ∷ 3 ∷ 2 ∷ []) 10 2
+p5 = rowAt 4
 
 abbrev p7 : Example
-p7 = accepted exampleC [] (0 ∷ 1 ∷ 2 ∷ 3 ∷ []) 0
+p7 = rowAt 6
 
 is-p1 : List·Memᴰ p1 examples
-is-p1 = List·Memᴰ·head refl
+is-p1 = is-row 0 (omega arith)
 
 is-p4 : List·Memᴰ p4 examples
-is-p4 = List·Memᴰ·tail (List·Memᴰ·tail (List·Memᴰ·tail (List·Memᴰ·head refl)))
+is-p4 = is-row 3 (omega arith)
 
 is-p5 : List·Memᴰ p5 examples
-is-p5 = List·Memᴰ·tail (List·Memᴰ·tail (List·Memᴰ·tail (List·Memᴰ·tail (List·Memᴰ·head refl))))
+is-p5 = is-row 4 (omega arith)
 
 is-p7 : List·Memᴰ p7 examples
-is-p7 = List·Memᴰ·tail (List·Memᴰ·tail (List·Memᴰ·tail (List·Memᴰ·tail (List·Memᴰ·tail (List·Memᴰ·tail (List·Memᴰ·head refl))))))
+is-p7 = is-row 6 (omega arith)
 
 -- ---- "a matcher that refuses every list (demand 3 shuts it out, by any pair with a unifier)"
 
@@ -170,21 +182,9 @@ cleared-unequal equal =
     let sides : _≡_ {A = Term TableSymbols} (var 0) (app (symbolWith 1 0) Terms.none) = equal (record { left = 3; right = 1 }) (List·Memᴰ·head refl) in
     never (cc)
 
-row-among : (row : Row) → List·Memᴰ row matchOrder
-row-among SIZE = List·Memᴰ·head refl
-row-among ROOM = List·Memᴰ·tail (List·Memᴰ·head refl)
-row-among WORD = List·Memᴰ·tail (List·Memᴰ·tail (List·Memᴰ·head refl))
-row-among LAYOUT = List·Memᴰ·tail (List·Memᴰ·tail (List·Memᴰ·tail (List·Memᴰ·head refl)))
-row-among POINTER = List·Memᴰ·tail (List·Memᴰ·tail (List·Memᴰ·tail (List·Memᴰ·tail (List·Memᴰ·head refl))))
-row-among NAME = List·Memᴰ·tail (List·Memᴰ·tail (List·Memᴰ·tail (List·Memᴰ·tail (List·Memᴰ·tail (List·Memᴰ·head refl)))))
-row-among LOOP = List·Memᴰ·tail (List·Memᴰ·tail (List·Memᴰ·tail (List·Memᴰ·tail (List·Memᴰ·tail (List·Memᴰ·tail (List·Memᴰ·head refl))))))
-row-among LIST = List·Memᴰ·tail (List·Memᴰ·tail (List·Memᴰ·tail (List·Memᴰ·tail (List·Memᴰ·tail (List·Memᴰ·tail (List·Memᴰ·tail (List·Memᴰ·head refl)))))))
-row-among ADDRESS = List·Memᴰ·tail (List·Memᴰ·tail (List·Memᴰ·tail (List·Memᴰ·tail (List·Memᴰ·tail (List·Memᴰ·tail (List·Memᴰ·tail (List·Memᴰ·tail (List·Memᴰ·head refl))))))))
-row-among CLASH = List·Memᴰ·tail (List·Memᴰ·tail (List·Memᴰ·tail (List·Memᴰ·tail (List·Memᴰ·tail (List·Memᴰ·tail (List·Memᴰ·tail (List·Memᴰ·tail (List·Memᴰ·tail (List·Memᴰ·head refl)))))))))
-row-among CYCLE = List·Memᴰ·tail (List·Memᴰ·tail (List·Memᴰ·tail (List·Memᴰ·tail (List·Memᴰ·tail (List·Memᴰ·tail (List·Memᴰ·tail (List·Memᴰ·tail (List·Memᴰ·tail (List·Memᴰ·tail (List·Memᴰ·head refl))))))))))
-
 accepted-passes : {job : Job} → Answered number (Fault job) matchOrder 0 0 → Passes job
-accepted-passes answered row place h f = passed-none (row-among row) 0 answered place f
+unfolding number
+accepted-passes {job} answered = none-parts (Fault job) (checkOrder ++ listRows) pairRows (passed-none number (Fault job) matchOrder 0 0 refl refl answered .0) .0
 
 pub clears-and-accepts-unequal : (m : Matcher)
     → ((t list class work : List ℕ) → Lent t list class work → numberOf (m t list class work .0) ≡ 0 → m t list class work .1 ≡ zeroed (length t) class)

@@ -6,10 +6,10 @@ use Prim.Native.Nat.{ℕ, _*_, _≤_}
 use lib.ListN.{length}
 use Rattle.words.specs.Word.{wordOf, tagNumber}
 use Rattle.words.specs.declared.kind.Kind.{Kind}
-use Rattle.graphs.specs.Partition.{ClassTable, joins as joinsOf}
+use Rattle.graphs.specs.Partition.{pairsOf, ClassTable, joins as joinsOf}
 use Rattle.table.specs.Table.{graphOf}
-use Rattle.table.specs.Answers.{Answered}
-use Rattle.table.specs.Faults.{Job, pairsOf, Fault, number, matchOrder}
+use Rattle.answering.specs.Answers.{Answered}
+use Rattle.table.specs.Faults.{Job, sent, Fault, number, matchOrder}
 
 -- ---- words
 
@@ -110,7 +110,7 @@ examples =
 
 -- A row's job, with room for so many class and work entries.
 abbrev pub jobWith : Example → ℕ → ℕ → Job
-jobWith e class-room work-room = record { table = e .table; list = e .list; class-room = class-room; work-room = work-room }
+jobWith e class-room work-room = sent (e .table) (e .list) class-room work-room
 
 -- What a row says. Document 01's table of numbers gives the answer and the place, whatever room there is, so long as there is
 -- enough; an accepted list has the row's entries for its class table, and they make the row's joins; a refusal has neither.

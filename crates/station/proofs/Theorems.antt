@@ -4,10 +4,10 @@ use mathlib.Core.Path.{_≡_, sym, ap, ap₂, _∙_}
 use mathlib.Core.List.{List, [], _∷_, _++_}
 use Prim.Native.Nat.{ℕ}
 use native.Mathlib.Decide.{ℕ-discrete}
+use Rattle.answering.proofs.Orders.{answered-only}
 use Rattle.graphs.specs.Partition.{joins}
 use Rattle.graphs.proofs.Theorems.{class-table-only}
 use Rattle.table.specs.Table.{graphOf}
-use Rattle.table.proofs.OneAnswer.{answered-only}
 use Rattle.checker.specs.Check.{numberOf as checkNumber, placeOf as checkPlace, joinsOf as checkJoins}
 use Rattle.checker.specs.declared.answer.Checked.{Checked}
 use Rattle.checker.proofs.OneCheck.{check-only}

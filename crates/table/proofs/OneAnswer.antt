@@ -1,75 +1,21 @@
--- An ordered list of rows allows one answer at one place (`answered-only`), and may be put together from two
--- (`refused-first`, `passed-first`); no row of document 01's table of numbers applies at two places (`fault-once`).
--- Assumes nothing.
+-- No row of document 01's table of numbers applies at two places (`fault-once`), and those of the table check do not look at the list
+-- (`check-off-list`, `none-off-list`). Assumes nothing.
 use mathlib.Core.Path.{_≡_, refl, sym, ap, _∙_}
-use mathlib.Core.Bool.{Bool, true, false}
-use mathlib.Core.Logic.{inl, inr}
-use mathlib.Core.List.{List, [], _∷_, _++_}
+use mathlib.Core.Bool.{true}
+use mathlib.Core.List.{List}
 use mathlib.Core.Option.{some}
 use Prim.Native.Nat.{ℕ, _+_, _<_}
-use native.Mathlib.Decide.{decLt}
 use native.Mathlib.Omega.{arith}
+use lib.Dec.{leb}
 use lib.ListN.{take}
-use Rattle.graphs.specs.Partition.{Clash, Cycle}
+use Rattle.answering.specs.Answers.{Answered, NoneOf}
+use Rattle.answering.proofs.LowestLaws.{neither-below, lowest-only}
+use Rattle.answering.proofs.Orders.{carried, none-carried}
+use Rattle.graphs.specs.Partition.{pairsOf, Clash, Cycle}
 use Rattle.graphs.proofs.Classes.{never}
 use Rattle.graphs.proofs.Theorems.{first-pairs-grow, clash-grows, cycle-grows}
 use Rattle.table.specs.Table.{graphOf}
-use Rattle.table.specs.Answers.{Lowest, First, Answered}
-use Rattle.table.specs.Faults.{Job, pairsOf, Row, SIZE, ROOM, WORD, LAYOUT, POINTER, NAME, LOOP, LIST, ADDRESS, CLASH, CYCLE, number, Fault, size-fault, room-fault, word-fault, layout-fault, pointer-fault, name-fault, loop-fault, list-fault, address-fault, clash-fault, cycle-fault}
-
--- two numbers, neither of which is below the other
-neither-below : {j k : ℕ} → (j < k → ⊥) → (k < j → ⊥) → j ≡ k
-neither-below {j} {k} f g = go (decLt j k) (decLt k j)
-  where
-    go : Dec (j < k) → Dec (k < j) → j ≡ k
-    go (yes h) d = absurd (f h)
-    go (no h) (yes l) = absurd (g l)
-    go (no h) (no l) = omega arith
-
-pub lowest-only : {P : ℕ → Type 0} {j k : ℕ} → Lowest P j → Lowest P k → j ≡ k
-lowest-only {P} {j} {k} l m = neither-below (λ h. m .none-below j h (l .has)) (λ h. l .none-below k h (m .has))
-
-pub first-only : {test : ℕ → Bool} {n j k : ℕ} → First test n j → First test n k → j ≡ k
-first-only {test} {n} {j} {k} f g =
-    neither-below
-    (λ h. let t : test j ≡ true = f .passes (omega (arith, g .within)) in let u : test j ≡ false = g .before j h in never (cc))
-    (λ h. let t : test k ≡ true = g .passes (omega (arith, f .within)) in let u : test k ≡ false = f .before k h in never (cc))
-
--- Two answers that an ordered list of rows allows are equal, where no row applies at two places.
-module _ {Row : Type 0} (number : Row → ℕ) (Applies : Row → ℕ → Type 0) (once : (row : Row) (p q : ℕ) → Applies row p → Applies row q → p ≡ q) where
-  pub answered-only : (rows : List Row) (a p b q : ℕ) → Answered number Applies rows a p → Answered number Applies rows b q → (a ≡ b) × (p ≡ q)
-  answered-only [] a p b q (x, y) (v, w) = (x ∙ sym v, y ∙ sym w)
-  answered-only (row ∷ rows) a p b q (inl (x, y)) (inl (v, w)) = (x ∙ sym v, once row p q y w)
-  answered-only (row ∷ rows) a p b q (inl (x, y)) (inr (none-applies, rest)) = absurd (none-applies p y)
-  answered-only (row ∷ rows) a p b q (inr (none-applies, rest)) (inl (v, w)) = absurd (none-applies q w)
-  answered-only (row ∷ rows) a p b q (inr (n, l)) (inr (m, r)) = answered-only rows a p b q l r
-
--- An order of rows put together from two: what the first part refuses stands, and what it lets pass the second part answers.
-module _ {Row : Type 0} (number : Row → ℕ) (Applies : Row → ℕ → Type 0) where
-  pub refused-first : (rows rest : List Row) (a p : ℕ) → (a ≡ 0 → ⊥) → Answered number Applies rows a p → Answered number Applies (rows ++ rest) a p
-  refused-first [] rest a p refused (x, y) = absurd (refused x)
-  refused-first (row ∷ rows) rest a p refused (inl x) = inl x
-  refused-first (row ∷ rows) rest a p refused (inr (none-applies, later)) = inr (none-applies, refused-first rows rest a p refused later)
-
-  pub passed-first : ((row : Row) → number row ≡ 0 → ⊥) → (rows rest : List Row) (p b q : ℕ) → Answered number Applies rows 0 p → Answered number Applies rest b q → Answered number Applies (rows ++ rest) b q
-  passed-first positive [] rest p b q x later = later
-  passed-first positive (row ∷ rows) rest p b q (inl (e, x)) later = absurd (positive row (sym e))
-  passed-first positive (row ∷ rows) rest p b q (inr (none-applies, x)) later = inr (none-applies, passed-first positive rows rest p b q x later)
-
--- no row has number 0
-pub number-positive : (row : Row) → number row ≡ 0 → ⊥
-unfolding number
-number-positive SIZE e = omega arith
-number-positive ROOM e = omega arith
-number-positive WORD e = omega arith
-number-positive LAYOUT e = omega arith
-number-positive POINTER e = omega arith
-number-positive NAME e = omega arith
-number-positive LOOP e = omega arith
-number-positive LIST e = omega arith
-number-positive ADDRESS e = omega arith
-number-positive CLASH e = omega arith
-number-positive CYCLE e = omega arith
+use Rattle.table.specs.Faults.{Job, sent, Row, number, Fault, size-fault, room-fault, word-fault, layout-fault, pointer-fault, name-fault, loop-fault, list-fault, address-fault, clash-fault, cycle-fault, checkOrder}
 
 -- No row applies at two places.
 module _ (job : Job) where
@@ -93,3 +39,29 @@ module _ (job : Job) where
       ap (λ (i : ℕ). i + 1) (neither-below (λ l. clash-before l c v) (λ l. clash-before l d n))
   fault-once row p q (cycle-fault h c f n m) (cycle-fault k d g v w) =
       ap (λ (i : ℕ). i + 1) (neither-below (λ l. cycle-before l c w) (λ l. cycle-before l d m))
+
+module _ (t : List ℕ) (c w : ℕ) where
+  off-list : (list other : List ℕ) (row : Row) (p : ℕ) → leb (number row) 7 ≡ true → Fault (sent t list c w) row p → Fault (sent t other c w) row p
+  unfolding number
+  off-list list other row p h (size-fault x) = size-fault x
+  off-list list other row p h (room-fault x) = room-fault x
+  off-list list other row p h (word-fault x) = word-fault x
+  off-list list other row p h (layout-fault x) = layout-fault x
+  off-list list other row p h (pointer-fault x) = pointer-fault x
+  off-list list other row p h (name-fault x) = name-fault x
+  off-list list other row p h (loop-fault x s) = loop-fault x s
+  off-list list other row p h (list-fault x) = never (cc)
+  off-list list other row p h (address-fault x) = never (cc)
+  off-list list other row p h (clash-fault i d n m) = never (cc)
+  off-list list other row p h (cycle-fault i d f n m) = never (cc)
+
+  module _ (list other : List ℕ) where
+    pub check-off-list : (a p : ℕ) → Answered number (Fault (sent t list c w)) checkOrder a p → Answered number (Fault (sent t other c w)) checkOrder a p
+    unfolding number
+    check-off-list a p =
+        carried number (Fault (sent t list c w)) number (Fault (sent t other c w)) (λ row. row) (λ row. leb (number row) 7) (λ row. refl) (off-list list other) (off-list other list) checkOrder a p refl
+
+    pub none-off-list : NoneOf (Fault (sent t other c w)) checkOrder → NoneOf (Fault (sent t list c w)) checkOrder
+    unfolding number
+    none-off-list =
+        none-carried number (Fault (sent t list c w)) number (Fault (sent t other c w)) (λ row. row) (λ row. leb (number row) 7) (λ row. refl) (off-list list other) (off-list other list) checkOrder refl

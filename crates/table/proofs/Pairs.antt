@@ -6,9 +6,9 @@ use mathlib.Core.List.{List, [], _∷_, List·Memᴰ·head, List·Memᴰ·tail}
 use Prim.Native.Nat.{ℕ, zero, suc, _+_, _*_, _≤_, _<_}
 use native.Mathlib.Omega.{arith}
 use lib.ListN.{length, getD, take}
-use Rattle.graphs.specs.Partition.{Pair, _∈_}
+use Rattle.graphs.specs.Partition.{Pair, pairsOf, _∈_}
 use Rattle.graphs.proofs.Classes.{never}
-use Rattle.table.specs.Faults.{pairsOf, pairAt, odd}
+use Rattle.table.specs.Faults.{pairAt, odd}
 
 -- ---- how many
 

@@ -2,16 +2,18 @@
 -- `no-fault-well-formed`. Assumes nothing.
 use mathlib.Core.Path.{_≡_, refl, sym, ap, _∙_}
 use mathlib.Core.Bool.{true≢false}
-use mathlib.Core.List.{List, List·Memᴰ, List·Memᴰ·head, List·Memᴰ·tail}
+use mathlib.Core.List.{List, [], _∷_}
 use mathlib.Core.Option.{Option, none, some}
-use Prim.Native.Nat.{ℕ, zero, suc, _<_}
+use Prim.Native.Nat.{ℕ, suc, _<_}
 use native.Mathlib.Omega.{arith}
 use lib.ListN.{length, drop}
+use Rattle.answering.specs.Answers.{NoneOf}
+use Rattle.answering.proofs.LowestLaws.{none-at-all}
+use Rattle.answering.proofs.Orders.{none-parts}
 use Rattle.graphs.specs.Graph.{Child, Steps, WellFormed}
 use Rattle.table.specs.Table.{kindAt, nodeKind, graphOf}
 use Rattle.table.specs.Layout.{item, breakFrom}
-use Rattle.table.specs.Answers.{Lowest}
-use Rattle.table.specs.Faults.{Job, Row, WORD, LAYOUT, POINTER, LOOP, Fault, word-fault, layout-fault, pointer-fault, loop-fault, checkOrder}
+use Rattle.table.specs.Faults.{Job, NAME, LOOP, Fault, word-fault, layout-fault, pointer-fault, loop-fault, shapeRows, tableRows}
 use Rattle.table.proofs.Children.{kind-node, node-kind, symbol-count, symbol-length, NamedChild, named-child}
 use Rattle.table.specs.Shaped.{Shaped}
 use Rattle.table.proofs.Shape.{inside-kind, kind-0, shaped-child}
@@ -31,14 +33,9 @@ module _ {t : List ℕ} (c : Shaped t) (no-loop : (x : ℕ) → Steps (Child (gr
 
 -- ---- no fault
 
--- where there is no lowest, there is none
-pub none-at-all : {P : ℕ → Type 0} → ((a : ℕ) → Lowest P a → ⊥) → (k a : ℕ) → a < k → P a → ⊥
-none-at-all lowest zero a h p = omega arith
-none-at-all lowest (suc k) a h p = lowest a (record { has = p; none-below = λ j l q. none-at-all lowest k j (omega arith) q })
-
 module _ (job : Job) (some-word : 0 < length (job .table)) where
-  pub no-fault-shaped : ((a : ℕ) → Fault job WORD a → ⊥) → ((a : ℕ) → Fault job LAYOUT a → ⊥) → ((a : ℕ) → Fault job POINTER a → ⊥) → Shaped (job .table)
-  no-fault-shaped word layout pointer =
+  pub no-fault-shaped : NoneOf (Fault job) shapeRows → Shaped (job .table)
+  no-fault-shaped (word, (layout, (pointer, rest))) =
       record {
         some-word = some-word;
         words = λ a h e. none-at-all (λ b l. word b (word-fault l)) (suc a) a (omega arith) (h, e);
@@ -51,11 +48,7 @@ module _ (job : Job) (some-word : 0 < length (job .table)) where
       whole (some a) e = absurd (layout a (layout-fault e))
 
   -- A table of at least one word to which no row from 3 to 7 applies has a well-formed graph.
-  pub no-fault-well-formed : ((row : Row) → List·Memᴰ row checkOrder → (a : ℕ) → Fault job row a → ⊥) → WellFormed (graphOf (job .table))
+  pub no-fault-well-formed : NoneOf (Fault job) tableRows → WellFormed (graphOf (job .table))
   no-fault-well-formed none-applies =
-      shaped-well-formed
-      (no-fault-shaped
-      (none-applies WORD (List·Memᴰ·tail (List·Memᴰ·tail (List·Memᴰ·head refl))))
-      (none-applies LAYOUT (List·Memᴰ·tail (List·Memᴰ·tail (List·Memᴰ·tail (List·Memᴰ·head refl)))))
-      (none-applies POINTER (List·Memᴰ·tail (List·Memᴰ·tail (List·Memᴰ·tail (List·Memᴰ·tail (List·Memᴰ·head refl)))))))
-      (λ x s. none-applies LOOP (List·Memᴰ·tail (List·Memᴰ·tail (List·Memᴰ·tail (List·Memᴰ·tail (List·Memᴰ·tail (List·Memᴰ·tail (List·Memᴰ·head refl))))))) 0 (loop-fault x s))
+      let parts = none-parts (Fault job) shapeRows (NAME ∷ LOOP ∷ []) none-applies in
+      shaped-well-formed (no-fault-shaped (parts .0)) (λ x s. parts .1 .1 .0 0 (loop-fault x s))

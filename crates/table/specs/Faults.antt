@@ -3,7 +3,7 @@
 use mathlib.Core.Path.{_≡_}
 use mathlib.Core.Bool.{Bool, true, false, _&&_, _||_, not}
 use mathlib.Core.Logic.{_⊎_}
-use mathlib.Core.List.{List, [], _∷_}
+use mathlib.Core.List.{List, [], _∷_, _++_}
 use mathlib.Core.Option.{some}
 use Prim.Native.Nat.{ℕ, zero, suc, _+_, _*_, _<_}
 use lib.Dec.{eqb, leb, ltb}
@@ -11,11 +11,11 @@ use lib.ListN.{length, getD, take, drop}
 use Rattle.words.specs.Word.{sameKind, isOneOf}
 use Rattle.words.specs.declared.kind.Kind.{Kind}
 use Rattle.words.specs.declared.kind.Kind.the-variants.{Variable, Pointer, Count, NoWord}
+use Rattle.answering.specs.Answers.{Lowest}
 use Rattle.graphs.specs.Graph.{Child, Steps}
-use Rattle.graphs.specs.Partition.{Pair, Clash, Cycle}
+use Rattle.graphs.specs.Partition.{Pair, pairsOf, Clash, Cycle}
 use Rattle.table.specs.Table.{wordAt, kindAt, contentAt, nodeKind, graphOf}
 use Rattle.table.specs.Layout.{item, breakFrom}
-use Rattle.table.specs.Answers.{Lowest}
 
 -- What a match is sent: a table, a list, and how many entries the class and the work buffer have.
 pub record Job : Type 0 where
@@ -23,6 +23,9 @@ pub record Job : Type 0 where
   pub list : List ℕ
   pub class-room : ℕ
   pub work-room : ℕ
+
+abbrev pub sent : List ℕ → List ℕ → ℕ → ℕ → Job
+sent t list class-room work-room = record { table = t; list = list; class-room = class-room; work-room = work-room }
 
 -- ---- one word
 
@@ -54,12 +57,6 @@ pub record Repeats (t : List ℕ) (a : ℕ) : Type 0 where
   pub same-label : contentAt t earlier ≡ contentAt t a
 
 -- ---- the list
-
--- "left, right, left, right"; an entry that has no partner is dropped, which only a refused list has
-unfoldable pub pairsOf : List ℕ → List Pair
-pairsOf [] = []
-pairsOf (l ∷ []) = []
-pairsOf (l ∷ r ∷ rest) = record { left = l; right = r } ∷ pairsOf rest
 
 -- the number of entries is odd
 unfoldable pub odd : List ℕ → Bool
@@ -130,10 +127,30 @@ pub data Fault (job : Job) : Row → ℕ → Type 0 where
       → (Cycle (graphOf (job .table)) (take i (pairsOf (job .list))) → ⊥)
       → Fault job CYCLE (i + 1)
 
+-- ---- orders
+
+-- the lengths that are sent: 1 and 2
+abbrev pub sizeRows : List Row
+sizeRows = SIZE ∷ ROOM ∷ []
+
+-- what the table holds: 3 to 7
+abbrev pub shapeRows : List Row
+shapeRows = WORD ∷ LAYOUT ∷ POINTER ∷ []
+
+abbrev pub tableRows : List Row
+tableRows = shapeRows ++ (NAME ∷ LOOP ∷ [])
+
+-- the list: 8 and 9; and its pairs: 10 and 11
+abbrev pub listRows : List Row
+listRows = LIST ∷ ADDRESS ∷ []
+
+abbrev pub pairRows : List Row
+pairRows = CLASH ∷ CYCLE ∷ []
+
 -- "The table check by itself .. gives 0 to 7 by the same rules"
 abbrev pub checkOrder : List Row
-checkOrder = SIZE ∷ ROOM ∷ WORD ∷ LAYOUT ∷ POINTER ∷ NAME ∷ LOOP ∷ []
+checkOrder = sizeRows ++ tableRows
 
 -- "The lowest number that applies is given"
 abbrev pub matchOrder : List Row
-matchOrder = SIZE ∷ ROOM ∷ WORD ∷ LAYOUT ∷ POINTER ∷ NAME ∷ LOOP ∷ LIST ∷ ADDRESS ∷ CLASH ∷ CYCLE ∷ []
+matchOrder = checkOrder ++ listRows ++ pairRows

@@ -2,6 +2,5 @@
 pub mod Table
 pub mod Heads
 pub mod Layout
-pub mod Answers
 pub mod Faults
 pub mod Shaped

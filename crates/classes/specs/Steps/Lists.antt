@@ -3,9 +3,8 @@ use mathlib.Core.Bool.{Bool}
 use mathlib.Core.List.{List, [], _∷_, _++_}
 use Prim.Native.Nat.{ℕ, _+_, _≤_, _<_}
 use lib.ListN.{length, take}
-use Rattle.graphs.specs.Partition.{Pair, Sides, Clash}
+use Rattle.graphs.specs.Partition.{Pair, pairsOf, Sides, Clash}
 use Rattle.table.specs.Table.{graphOf}
-use Rattle.table.specs.Faults.{pairsOf}
 use Rattle.classes.specs.Steps.Meeting.{State, Config, Within, Complete, RestKept, Settled}
 
 -- What the join of one pair does, with no pair waiting before and after.

@@ -87,7 +87,7 @@ print-variables-requires c κs =
     let k : tie.After-class2 = search needs in
     let a : tie.After-number = search needs in
     let i : tie.Then1 = search needs in
-    front-fits (replicate 8192 0) (s .args .n) (m .match-job .ensures) (in-table s) (t .table2 .given) (sym (a .number .ensures .0) ∙ i .if1 .taken) (length-replicate {A = ℕ} 4096 0) (k .class2 .given)
+    front-fits (replicate 8192 0) (s .args .n) (m .match-job .ensures) (in-table s) (t .table2 .given) (sym (a .number .ensures) ∙ i .if1 .taken) (length-replicate {A = ℕ} 4096 0) (k .class2 .given)
 
 returns : tie.Need-returns
 returns c = search needs

@@ -22,8 +22,8 @@ layout-break-requires c κs = search needs
 enum-known-at : tie.Need-enum-known-at
 enum-known-at c = search needs
 
-cast-t10 : tie.Need-cast-t10
-cast-t10 c =
+cast-t11 : tie.Need-cast-t11
+cast-t11 c =
     let p : tie.Start = search needs in
     let layout : tie.After-layout-break = search needs in
     omega (arith, p .pre, break-within (p .args .table .now) _ (sym (layout .layout-break .ensures) ∙ ap breakOf (c .before .at .given .1)))
@@ -42,8 +42,8 @@ enum-told c = search needs
 first-bad-pointer-requires : tie.Need-first-bad-pointer-requires
 first-bad-pointer-requires c κs = search needs
 
-cast-t12 : tie.Need-cast-t12
-cast-t12 c = search needs
+cast-t14 : tie.Need-cast-t14
+cast-t14 c = search needs
 
 returns-3 : tie.Need-returns-3
 returns-3 c =
@@ -76,10 +76,10 @@ row-by-row-spec =
     returns
     layout-break-requires
     enum-known-at
-    cast-t10
+    cast-t11
     returns-2
     enum-told
     first-bad-pointer-requires
-    cast-t12
+    cast-t14
     returns-3
     returns-4)

@@ -31,7 +31,7 @@ returns c =
     let j : tie.After-joins = search needs in
     let n : tie.After-put-numbers = search needs in
     let k : tie.After-put-classes = search needs in
-    (a .number .ensures .0, reported (s .args .class .now) (s .args .room .now) (a .number .ensures .0) (p .place .ensures) (j .joins .ensures) (n .put-numbers .ensures) (k .put-classes .ensures))
+    (a .number .ensures, reported (s .args .class .now) (s .args .room .now) (a .number .ensures) (p .place .ensures) (j .joins .ensures) (n .put-numbers .ensures) (k .put-classes .ensures))
 
 pub report-spec : {M : Type 1} → statement M
 report-spec =

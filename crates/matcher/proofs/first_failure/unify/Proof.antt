@@ -28,8 +28,8 @@ first-cycle-requires c κs =
 clear16-requires : tie.Need-clear16-requires
 clear16-requires c κs = search needs
 
-cast-t24 : tie.Need-cast-t24
-cast-t24 c =
+cast-t25 : tie.Need-cast-t25
+cast-t25 c =
     let p : tie.Start = search needs in
     let u : tie.After-join-until-clash = search needs in
     let f : tie.After-first-cycle = search needs in
@@ -52,11 +52,11 @@ returns c =
 clear16-requires-2 : tie.Need-clear16-requires-2
 clear16-requires-2 c κs = search needs
 
-add-t32 : tie.Need-add-t32
-add-t32 c = search needs
+add-t33 : tie.Need-add-t33
+add-t33 c = search needs
 
-cast-t33 : tie.Need-cast-t33
-cast-t33 c = search needs
+cast-t34 : tie.Need-cast-t34
+cast-t34 c = search needs
 
 same-length-3 : tie.Need-same-length-3
 same-length-3 c = search needs
@@ -103,13 +103,13 @@ unify-spec =
     reaches-itself-requires
     first-cycle-requires
     clear16-requires
-    cast-t24
+    cast-t25
     same-length
     same-length-2
     returns
     clear16-requires-2
-    add-t32
-    cast-t33
+    add-t33
+    cast-t34
     same-length-3
     same-length-4
     returns-2

@@ -3,7 +3,8 @@ use Prim.Native.Nat.{_-_}
 use native.Mathlib.Omega.{arith}
 use borrow.Author.Needs.{needs}
 use lib.ListN.{length}
-use Rattle.table.specs.Faults.{pairsOf, pairAt, badSides}
+use Rattle.graphs.specs.Partition.{pairsOf}
+use Rattle.table.specs.Faults.{pairAt, badSides}
 use Rattle.shape.proofs.Search.{Passed, passed-none, passed-more, found-here, found-nowhere}
 use Rattle.matcher.proofs.ListLaws.{half-entries}
 use Rattle.matcher.proofs.list_faults.first_bad_pair.Statement.{statement}

@@ -23,3 +23,8 @@ abbrev pub Answered : {Row : Type 0} → (Row → ℕ) → (Row → ℕ → Type
 Answered number Applies [] answer place = (answer ≡ 0) × (place ≡ 0)
 Answered number Applies (row ∷ rows) answer place =
     ((answer ≡ number row) × Applies row place) ⊎ (((p : ℕ) → Applies row p → ⊥) × Answered number Applies rows answer place)
+
+-- None of these rows applies, at any place.
+abbrev pub NoneOf : {Row : Type 0} → (Row → ℕ → Type 0) → List Row → Type 0
+NoneOf Applies [] = Unit {0}
+NoneOf Applies (row ∷ rows) = ((p : ℕ) → Applies row p → ⊥) × NoneOf Applies rows
