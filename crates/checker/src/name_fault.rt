@@ -4,10 +4,10 @@
 // entries begin the chains, each with its newest address, and entry 3n + a has the address that comes
 // after a. Address 0, which is no variable, ends a chain. Links fall, so a walk ends.
 //
-// A label's chain is found by its high bits after it was multiplied by an odd number, which is one to
-// one on 16 bits, so that labels that agree in their low bits are spread too. A chain has
-// at most 65,536 / 3n + 1 labels before one repeats, and no table takes more than about 11,000
-// comparisons of labels.
+// The chain of a label goes by the high bits of the label times an odd number. Such a product is one
+// to one on 16 bits, and labels that agree in their low bits are spread too. A chain has at most
+// 65,536 / 3n + 1 labels before one repeats, and no table takes more than about 11,000 comparisons of
+// labels.
 ghost use mathlib.Core.Path.{_≡_};
 ghost use Prim.Native.Nat.{_+_, _*_, _<_, _≤_};
 ghost use lib.ListN.{length, getD};

@@ -96,8 +96,8 @@ fn after_item(table: &[u32], work: &mut [u16], at: usize) -> usize
     }
 }
 
-// Whether none of the rows from 3 to 6 applies. Of a table that fails nothing is said, and nothing of
-// the first 4n entries of the work row, which are written over.
+// Whether none of the rows from 3 to 6 applies. Nothing is said of a table that fails, nor of the
+// first 4n entries of the work row, which are written over.
 pub(crate) fn is_sound(table: &[u32], work: &mut [u16]) -> bool
     requires { ⌜ (0 < length (now table)) × (length (now table) ≤ 4096) × (4 * length (now table) ≤ length (now work)) ⌝ }
     ensures { λ r. ⌜ SoundTable (now (table .entry)) (now (work .entry)) (now (work .exit)) r ⌝ }

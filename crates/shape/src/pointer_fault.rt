@@ -8,7 +8,7 @@ use words::kind::Kind;
 use words::numbers::Address;
 use words::word;
 
-// Whether a pointer may not name this address.
+// Whether no pointer may name this address.
 pub fn is_bad_target(table: &[u32], target: Address) -> bool
     ensures { λ r. ⌜ r ≡ badTarget (now (table .entry)) (target .0) ⌝ }
 {

@@ -10,8 +10,8 @@ use Rattle.table.specs.Table.{choose, kindAt, contentAt}
 abbrev pub labelAt : List ℕ → ℕ → Label
 labelAt t x = record { 0 = contentAt t x }
 
--- A function with its label and argument count, or a constant or a variable with its label. What is no node is taken for a
--- variable; nobody asks for its head.
+-- A function with its label and argument count, or a constant or a variable with its label. A word that is not a node is
+-- taken for a variable; nobody asks for its head.
 unfoldable pub top : List ℕ → ℕ → Head
 top t x =
     choose (sameKind (kindAt t x) Kind.Function) (Head.Function (labelAt t x) (contentAt t (x + 1)))

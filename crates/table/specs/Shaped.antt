@@ -8,7 +8,7 @@ use lib.ListN.{length, drop}
 use Rattle.table.specs.Layout.{item, breakFrom}
 use Rattle.table.specs.Faults.{badWord, badPointer}
 
--- What a table has to which none of the rows 3, 4 and 5 applies.
+-- What holds of a table to which none of the rows 3, 4 and 5 applies.
 pub record Shaped (t : List ℕ) : Type 0 where
   pub some-word : 0 < length t
   pub words : (a : ℕ) → a < length t → badWord t a ≡ true → ⊥

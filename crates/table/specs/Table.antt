@@ -16,7 +16,7 @@ unfoldable pub choose : {A : Type 0} → Bool → A → A → A
 choose true a b = a
 choose false a b = b
 
--- the word at an address; past the end 0, which is no word
+-- the word at an address; past the end it is 0, which is not a word
 abbrev pub wordAt : List ℕ → ℕ → ℕ
 wordAt t a = getD t a 0
 
@@ -80,7 +80,7 @@ graphOf t = record { size = length t; head = λ x. headOf (kindAt t x) t x }
 
 -- ---- blocks
 
--- how many children the node at x has; what is no function has none
+-- how many children the node at x has; only a function has any
 unfoldable pub degree : List ℕ → ℕ → ℕ
 degree t x = choose (sameKind (kindAt t x) Function) (contentAt t (x + 1)) 0
 
@@ -88,6 +88,6 @@ degree t x = choose (sameKind (kindAt t x) Function) (contentAt t (x + 1)) 0
 abbrev pub childOf : List ℕ → ℕ → ℕ → ℕ
 childOf t x i = named t (x + 2 + i)
 
--- Every block ends inside the table: what a layout that does not break gives (`laid`, proofs/WellFormed.antt).
+-- Every block ends inside the table: what a layout that does not break gives (`shaped-laid`, proofs/Shape.antt).
 abbrev pub Laid : List ℕ → Type 0
 Laid t = (x : ℕ) → kindAt t x ≡ Function → x + 1 + contentAt t (x + 1) < length t

@@ -2,8 +2,8 @@
 // word at an address, is a node, whether it is a function, what stands at it, and which nodes are its
 // children.
 //
-// Those that go into a block require that each block ends inside the table, which a checked table
-// gives.
+// Those that go into a block require that each block ends inside the table, as it does in a checked
+// one.
 pub mod node;
 
 pub use node::child;

@@ -30,7 +30,7 @@ pub fn is_node(table: &[u32], x: Address) -> bool
     is_node_word(table[at])
 }
 
-// Whether the word at an address is a function. What is no function has no children.
+// Whether the word at an address is a function. Only a function has children.
 pub fn is_function(table: &[u32], x: Address) -> bool
     requires { ⌜ x .0 < length (now table) ⌝ }
     ensures { λ r. ⌜ r ≡ sameKind (kindAt (now (table .entry)) (x .0)) Kind.Function ⌝ }

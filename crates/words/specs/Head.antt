@@ -1,4 +1,4 @@
--- Heads and symbols: what a node is at its top. Assumes nothing.
+-- Heads and symbols: what stands at the top of a node. Assumes nothing.
 use Prim.Native.Nat.{_≤_}
 use mathlib.Core.Bool.{Bool, false, _&&_}
 use lib.Dec.{eqb}
@@ -27,7 +27,7 @@ labelOf (Variable l) = l
 labelOf (Constant l) = l
 labelOf (Function l n) = l
 
--- the label of a head with its argument count, which is 0 if it is no function
+-- the label of a head with its argument count, which is 0 for all but functions
 abbrev pub labelAndCount : Head → Symbol
 labelAndCount (Variable l) = record { label = l; count = 0 }
 labelAndCount (Constant l) = record { label = l; count = 0 }

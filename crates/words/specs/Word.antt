@@ -1,4 +1,4 @@
--- One word of the table, by document 01, "The word and the table". All is said of any number, also of one that is no word.
+-- One word of the table, by document 01, "The word and the table". All is said of any number, even of one that is not a word.
 -- Assumes nothing.
 use Prim.Native.Nat.{ℕ, _+_, _*_, _/_, _%_}
 use mathlib.Core.Bool.{Bool, false, cond, _||_}
@@ -23,7 +23,7 @@ tagOf w = w / 65536 % 32
 abbrev pub highOf : ℕ → ℕ
 highOf w = w / 2097152
 
--- The table of tags, "as a number". What is no word has no tag there; 0, which is not in the table, stands for that.
+-- The table of tags, "as a number". What is not a word has no tag there, and is given 0, which is not in the table.
 abbrev pub tagNumber : Kind → ℕ
 tagNumber Variable = 16
 tagNumber Constant = 18
@@ -59,10 +59,10 @@ abbrev pub kindAmong : List Kind → ℕ → Kind
 kindAmong [] tag = NoWord
 kindAmong (k ∷ ks) tag = cond (eqb tag (tagNumber k)) k (kindAmong ks tag)
 
--- the kind of word that has the tag, by the table; none, if the "tag is not in the table"
+-- the kind of word that has the tag, by the table; no word, if the "tag is not in the table"
 abbrev pub kindOfTag : ℕ → Kind
 kindOfTag tag = kindAmong tableKinds tag
 
--- the kind of a number: it is no word if "a high bit is set"
+-- the kind of a number, which is no word if "a high bit is set"
 unfoldable pub kindOf : ℕ → Kind
 kindOf w = cond (eqb (highOf w) 0) (kindOfTag (tagOf w)) NoWord

@@ -1,4 +1,4 @@
-// What a node is at its top, and its symbol.
+// What stands at the top of a node, and its symbol.
 ghost use mathlib.Core.Path.{_≡_};
 ghost use Rattle.words.specs.Head.{labelOf, labelAndCount, sameSymbol};
 use crate::numbers::Label;
@@ -28,8 +28,8 @@ pub fn label_of(head: Head) -> Label
     }
 }
 
-// The label of a head with its argument count, which is 0 if it is no function. Of a constant and of a
-// function this is the symbol; a variable has none.
+// The label of a head with its argument count, which is 0 for all but functions. For a constant and
+// for a function this is the symbol; a variable has no symbol.
 pub fn label_and_count(head: Head) -> Symbol
     ensures { λ r. ⌜ r ≡ labelAndCount head ⌝ }
 {

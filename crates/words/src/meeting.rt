@@ -1,5 +1,5 @@
 // What happens when two heads meet. Their kinds choose an action by a table, and the action says
-// what of them is compared.
+// which parts of them are compared.
 ghost use mathlib.Core.Path.{_≡_};
 ghost use Prim.Native.Nat.{_<_};
 ghost use Rattle.words.specs.Head.{labelAndCount, labelsAgree, sameSymbol};

@@ -4,7 +4,7 @@
 // A place in the table, from 0.
 pub struct Address(pub u16);
 
-// What tells variables from one another, and symbols of one argument count.
+// What tells variables apart, and symbols that have the same argument count.
 pub struct Label(pub u16);
 
 // A place in the list of pairs, from 1.

@@ -1,4 +1,4 @@
-// One word, taken apart. These functions take any 32-bit number, also one that is no word.
+// One word, taken apart. These functions take any 32-bit number, even one that is not a word.
 ghost use mathlib.Core.Path.{_≡_};
 ghost use Rattle.words.specs.Word.{contentOf, tagOf, kindOf};
 use crate::kind::Kind;
