@@ -10,7 +10,7 @@
 // labels.
 ghost use mathlib.Core.Path.{_≡_};
 ghost use Prim.Native.Nat.{_+_, _*_, _<_, _≤_};
-ghost use lib.ListN.{length, getD};
+ghost use lib.ListN.{length};
 ghost use Rattle.words.specs.declared.kind.Kind.{Kind};
 ghost use Rattle.table.specs.Faults.{Repeats};
 ghost use Rattle.table.specs.Table.{wordAt, kindAt, contentAt};
@@ -35,14 +35,6 @@ fn label_at(table: &[u32], at: usize) -> Label
     word::label(table[at])
 }
 
-// An entry of the work row, which is an address.
-fn entry(work: &[u16], place: usize) -> usize
-    requires { ⌜ place < length (now work) ⌝ }
-    ensures { λ r. ⌜ r ≡ getD (now (work .entry)) place 0 ⌝ }
-{
-    work[place] as usize
-}
-
 // Where the chain of a label begins.
 fn start(label: Label, starts: usize) -> usize
     requires { ⌜ (0 < starts) × (starts ≤ 12288) ⌝ }
@@ -59,12 +51,12 @@ fn stood_earlier(table: &[u32], work: &[u16], at: usize) -> bool
 {
     let starts = STARTS_A_WORD * table.len();
     let label = label_at(table, at);
-    let mut earlier = entry(work, start(label, starts));
+    let mut earlier = rows::at(work, start(label, starts));
     while earlier != 0 {
         if label_at(table, earlier).0 == label.0 {
             return true;
         }
-        earlier = entry(work, starts + earlier);
+        earlier = rows::at(work, starts + earlier);
     }
     false
 }

@@ -34,7 +34,7 @@ pub fn end(work: &[u16], n: usize, depth: usize) -> usize
     requires { ⌜ (0 < depth) × (depth ≤ n) × (n + n ≤ length (now work)) × (n ≤ 4096) ⌝ }
     ensures { λ r. ⌜ r ≡ getD (now (work .entry)) (n + (depth - 1)) 0 ⌝ }
 {
-    reads::at(work, n + (depth - 1))
+    rows::at(work, n + (depth - 1))
 }
 
 // Marks x as finished.
@@ -53,7 +53,7 @@ fn is_open(table: &[u32], work: &[u16], y: usize) -> bool
     if !reads::has_edges(table, y) {
         return false;
     }
-    reads::at(work, y) != FINISHED
+    rows::at(work, y) != FINISHED
 }
 
 // The first edge of x, from the i-th on, that leads to an open vertex; or the count of x's edges. It

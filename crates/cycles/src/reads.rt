@@ -1,21 +1,13 @@
 // The rows and the digraph, in numbers of one width.
 ghost use mathlib.Core.Path.{_≡_};
 ghost use Prim.Native.Nat.{_<_, _≤_};
-ghost use lib.ListN.{length, getD, set};
+ghost use lib.ListN.{length, set};
 ghost use Rattle.words.specs.Word.{sameKind};
 ghost use Rattle.words.specs.declared.kind.Kind.{Kind};
 ghost use Rattle.graphs.specs.Partition.{entry};
 ghost use Rattle.table.specs.Table.{kindAt, degree, childOf, Laid};
 use table::node;
 use words::numbers::Address;
-
-// The entry of a row at i.
-pub fn at(row: &[u16], i: usize) -> usize
-    requires { ⌜ i < length (now row) ⌝ }
-    ensures { λ r. ⌜ r ≡ getD (now (row .entry)) i 0 ⌝ }
-{
-    row[i] as usize
-}
 
 // Sets the entry of a row at i.
 pub fn put(row: &mut [u16], i: usize, v: usize)
@@ -47,5 +39,5 @@ pub fn next(table: &[u32], class: &[u16], x: usize, i: usize) -> usize
     ensures { λ r. ⌜ r ≡ entry (now (class .entry)) (childOf (now (table .entry)) x i) ⌝ }
 {
     let child = node::child(table, Address(x as u16), i as u16);
-    at(class, child.0 as usize)
+    rows::at(class, child.0 as usize)
 }

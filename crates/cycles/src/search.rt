@@ -25,7 +25,7 @@ fn from_root(table: &[u32], class: &[u16], work: &mut [u16], root: usize) -> boo
         let j = path::pass_over(table, class, work, x, i, count);
         if j < count {
             let y = reads::next(table, class, x, j);
-            if reads::at(work, y) != 0 {
+            if rows::at(work, y) != 0 {
                 return true;
             }
             path::follow(work, table.len(), depth, x, j, y);
@@ -37,7 +37,7 @@ fn from_root(table: &[u32], class: &[u16], work: &mut [u16], root: usize) -> boo
             depth -= 1;
             if 0 < depth {
                 x = path::end(work, table.len(), depth);
-                i = reads::at(work, x);
+                i = rows::at(work, x);
             }
         }
     }
@@ -53,10 +53,10 @@ fn visit(table: &[u32], class: &[u16], work: &mut [u16], x: usize) -> bool
     if !reads::has_edges(table, x) {
         return false;
     }
-    if reads::at(work, x) != 0 {
+    if rows::at(work, x) != 0 {
         return false;
     }
-    if reads::at(class, x) != x {
+    if rows::at(class, x) != x {
         return false;
     }
     from_root(table, class, work, x)

@@ -23,13 +23,13 @@ label-at-requires c κs = omega arith
 start-requires : tie.Need-start-requires Inv-loop μ-loop
 start-requires c κs = omega arith
 
-entry-requires : tie.Need-entry-requires Inv-loop μ-loop
-entry-requires c κs = omega arith
+at-requires : tie.Need-at-requires Inv-loop μ-loop
+at-requires c κs = omega arith
 
 loop-holds : tie.Need-loop-holds Inv-loop μ-loop
 loop-holds c =
     let p : tie.Start Inv-loop μ-loop = search needs in
-    walk-begins (p .pre .0 .chains) (c .before .start .ensures .0) (c .before .start .ensures .1) (c .entry .ensures)
+    walk-begins (p .pre .0 .chains) (c .before .start .ensures .0) (c .before .start .ensures .1) (c .at .ensures)
 
 label-at-requires-2 : tie.Need-label-at-requires-2 Inv-loop μ-loop
 label-at-requires-2 c κs = omega (arith, c .before .loop .inv .kept .below)
@@ -42,24 +42,24 @@ returns c =
     walk-hits (l .loop .inv) (c .before .before .before .before .loop-test .taken) (p .pre .2)
     (sym (c .before .before .before .label-at2 .ensures) ∙ c .if1 .taken ∙ own .label-at .ensures)
 
-add-entry : tie.Need-add-entry Inv-loop μ-loop
-add-entry c = omega arith
+add-at : tie.Need-add-at Inv-loop μ-loop
+add-at c = omega arith
 
-entry-requires-2 : tie.Need-entry-requires-2 Inv-loop μ-loop
-entry-requires-2 c κs = omega arith
+at-requires-2 : tie.Need-at-requires-2 Inv-loop μ-loop
+at-requires-2 c κs = omega arith
 
 loop-less : tie.Need-loop-less Inv-loop μ-loop
 loop-less c =
     let p : tie.Start Inv-loop μ-loop = search needs in
     let l : tie.At-loop Inv-loop μ-loop = search needs in
-    walk-falls (p .pre .0 .chains) (l .loop .inv) (c .before .before .before .before .before .loop-test .taken) (c .entry2 .ensures)
+    walk-falls (p .pre .0 .chains) (l .loop .inv) (c .before .before .before .before .before .loop-test .taken) (c .at2 .ensures)
 
 loop-again : tie.Need-loop-again Inv-loop μ-loop
 loop-again c =
     let p : tie.Start Inv-loop μ-loop = search needs in
     let l : tie.At-loop Inv-loop μ-loop = search needs in
     walk-goes-on (p .pre .0 .chains) (l .loop .inv) (c .before .before .before .before .before .loop-test .taken)
-    (λ e. c .before .if1 .left (c .before .before .before .before .label-at2 .ensures ∙ e)) (c .entry2 .ensures)
+    (λ e. c .before .if1 .left (c .before .before .before .before .label-at2 .ensures ∙ e)) (c .at2 .ensures)
 
 returns-2 : tie.Need-returns-2 Inv-loop μ-loop
 returns-2 c =
@@ -75,12 +75,12 @@ stood-earlier-spec =
     mul-starts
     label-at-requires
     start-requires
-    entry-requires
+    at-requires
     loop-holds
     label-at-requires-2
     returns
-    add-entry
-    entry-requires-2
+    add-at
+    at-requires-2
     loop-less
     loop-again
     returns-2)

@@ -1,8 +1,8 @@
--- `cycles::reads::at` meets its contract: an entry of 16 bits fits. Assumes nothing.
+-- `rows::row16::at` meets its contract: an entry of 16 bits fits. Assumes nothing.
 use native.Mathlib.Omega.{arith}
 use borrow.Author.Needs.{needs}
-use Rattle.cycles.proofs.reads.at.Statement.{statement}
-use Rattle.cycles.proofs.reads.at.Tie as tie
+use Rattle.rows.proofs.row16.at.Statement.{statement}
+use Rattle.rows.proofs.row16.at.Tie as tie
 
 mul-result : tie.Need-mul-result
 mul-result c = search needs
