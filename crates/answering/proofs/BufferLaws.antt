@@ -6,8 +6,9 @@ use mathlib.Core.Logic.{_⊎_, inl, inr}
 use mathlib.Core.List.{List}
 use Prim.Native.Nat.{ℕ}
 use borrow.Author.Tests.{ne-eqb, not-true}
+use Rattle.rows.specs.Placed.{zeroed}
 use Rattle.answering.specs.Answers.{Answered}
-use Rattle.answering.specs.Buffers.{zeroed, changesNothing, left}
+use Rattle.answering.specs.Buffers.{changesNothing, left}
 use Rattle.answering.proofs.Orders.{each, answered-tested}
 
 pub early-changes : (a : ℕ) → (a ≡ 1) ⊎ (a ≡ 2) → changesNothing a ≡ true

@@ -1,13 +1,9 @@
 -- What an answer leaves in a lent row. The sentences quoted are document 01's, "Numbers returned". Assumes nothing.
 use mathlib.Core.Bool.{Bool, cond, _||_}
-use mathlib.Core.List.{List, _++_}
+use mathlib.Core.List.{List}
 use Prim.Native.Nat.{ℕ}
 use lib.Dec.{eqb}
-use lib.ListN.{drop, replicate}
-
--- the first n entries become 0, and the entries above stay
-abbrev pub zeroed : ℕ → List ℕ → List ℕ
-zeroed n row = replicate n 0 ++ drop n row
+use Rattle.rows.specs.Placed.{zeroed}
 
 -- "Answers 1 and 2 change nothing."
 unfoldable pub changesNothing : ℕ → Bool

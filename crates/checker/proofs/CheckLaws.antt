@@ -10,11 +10,12 @@ use mathlib.Core.List.{List, [], _∷_, _++_}
 use Prim.Native.Nat.{ℕ, _*_, _≤_, _<_}
 use native.Mathlib.Omega.{arith}
 use lib.ListN.{length, drop, replicate}
+use Rattle.rows.specs.Placed.{zeroed}
 use Rattle.answering.specs.declared.fault.TableFault.{TableFault}
 use Rattle.answering.specs.declared.fault.TableFault.the-variants.{Size, Room, Name, Loop}
 use Rattle.answering.specs.Answers.{NoneOf}
 use Rattle.answering.specs.TableFaults.{numberOf as faultNumber, placeOf as faultPlace}
-use Rattle.answering.specs.Buffers.{zeroed, changesNothing, left}
+use Rattle.answering.specs.Buffers.{changesNothing, left}
 use Rattle.answering.proofs.FaultLaws.{known}
 use Rattle.answering.proofs.Orders.{passed-none, refused-first, none-first}
 use Rattle.answering.proofs.BufferLaws.{later-rows, left-zeroed}
@@ -118,7 +119,7 @@ late : {t : List ℕ} (r : Checked) → ByRows tableRows t r → (n : ℕ) (row 
 unfolding number changesNothing
 late {t} r by n row = left-zeroed (numberOf r) n row (later-rows number (Fault (sent t [] 0 0)) tableRows (numberOf r) (placeOf r) refl (by [] 0 0))
 
-cleared : (n : ℕ) (row stage : List ℕ) {after : List ℕ} → after ≡ replicate n 0 ++ drop n stage → drop n stage ≡ drop n row → after ≡ zeroed n row
+cleared : (n : ℕ) (row stage : List ℕ) {after : List ℕ} → after ≡ zeroed n stage → drop n stage ≡ drop n row → after ≡ zeroed n row
 cleared n row stage e k = e ∙ ap (λ (rest : List ℕ). replicate n 0 ++ rest) k
 
 module _ (t class work : List ℕ) where
@@ -139,7 +140,7 @@ module _ (t class work : List ℕ) where
   -- The answer by the rows from 3 on, with both rows cleared, is the check's.
   pub check-faults : {class-stage work-stage class-after work-after : List ℕ} {r : Checked} → Roomy t class work
       → Stage tableRows t class work r class-stage work-stage
-      → class-after ≡ replicate (length t) 0 ++ drop (length t) class-stage → work-after ≡ replicate (4 * length t) 0 ++ drop (4 * length t) work-stage
+      → class-after ≡ zeroed (length t) class-stage → work-after ≡ zeroed (4 * length t) work-stage
       → CheckOf t class work r class-after work-after
   check-faults {class-stage} {work-stage} {r = r} roomy stage ec ew =
       record {

@@ -10,12 +10,13 @@
 -- Assumes nothing.
 use mathlib.Core.Path.{_≡_, refl, sym, ap, subst, _∙_}
 use mathlib.Core.Bool.{Bool, true, false}
-use mathlib.Core.List.{List, _++_}
+use mathlib.Core.List.{List}
 use Prim.Native.Nat.{ℕ, _+_, _*_, _≤_, _<_}
 use native.Mathlib.Omega.{arith}
-use lib.ListN.{length, getD, set, drop, replicate, length-set, length-append, length-replicate, length-drop}
+use lib.ListN.{length, getD, set, drop, length-set, length-append, length-replicate, length-drop}
 use lib.Seq.{getD-set-same, getD-set-other, drop-set-lt}
 use borrow.Author.Count.{below-more}
+use Rattle.rows.specs.Placed.{zeroed}
 use Rattle.rows.proofs.Laws.{behind-cleared, cleared-zero}
 use Rattle.words.specs.Word.{kindOf}
 use Rattle.words.specs.declared.kind.Kind.the-variants.{Variable}
@@ -105,7 +106,7 @@ judged-stays false j = j .goes-on .stays
 -- the first n entries of a row were set to 0
 pub record Cleared (n : ℕ) (entry cleared : List ℕ) : Type 0 where
   pub fits : n ≤ length entry
-  pub row : cleared ≡ replicate n 0 ++ drop n entry
+  pub row : cleared ≡ zeroed n entry
 
 module _ {n : ℕ} {entry cleared : List ℕ} (c : Cleared n entry cleared) where
   cleared-length : length cleared ≡ length entry
@@ -122,7 +123,7 @@ pub chained-none :
     length t ≤ 4096 →
     4 * length t ≤ length entry →
     wordAt t 0 ≡ 0 →
-    cleared ≡ replicate (3 * length t) 0 ++ drop (3 * length t) entry →
+    cleared ≡ zeroed (3 * length t) entry →
     ChainedOn t entry cleared 1
 unfolding kindOf
 chained-none {t} {entry} {cleared} small room first e =

@@ -6,6 +6,7 @@ use Prim.Native.Nat.{ℕ, _+_, _*_, _≤_, _<_}
 use lib.ListN.{length, take, drop, replicate}
 use lib.Seq.{take-all}
 use Rattle.words.specs.declared.numbers.PairNumber.{PairNumber}
+use Rattle.rows.specs.Placed.{zeroed}
 use Rattle.graphs.specs.Partition.{Pair, pairsOf, Sides, Clash, ClassTable}
 use Rattle.table.specs.Table.{graphOf}
 use Rattle.classes.specs.Steps.Forest.{Forest, Flattened}
@@ -28,11 +29,11 @@ module _ {t list class work : List ℕ} where
   starting-state (earlier, j) = starting j .0
 
   module _ {class-each work-each work-after : List ℕ} {i : ℕ} (each : EachJoined t list class work class-each work-each i)
-      (work-cleared : work-after ≡ replicate (2 * length t) 0 ++ drop (2 * length t) work-each) where
-    work-left : drop (2 * length t) work-each ≡ drop (2 * length t) work → work-after ≡ replicate (2 * length t) 0 ++ drop (2 * length t) work
+      (work-cleared : work-after ≡ zeroed (2 * length t) work-each) where
+    work-left : drop (2 * length t) work-each ≡ drop (2 * length t) work → work-after ≡ zeroed (2 * length t) work
     work-left k = work-cleared ∙ ap (λ (rest : List ℕ). replicate (2 * length t) 0 ++ rest) k
 
-    pub clash-joined : i < length (pairsOf list) → {class-after : List ℕ} → class-after ≡ replicate (length t) 0 ++ drop (length t) class-each
+    pub clash-joined : i < length (pairsOf list) → {class-after : List ℕ} → class-after ≡ zeroed (length t) class-each
         → (k : PairNumber) → k .0 ≡ i + 1 → JoinOf t list class work (Joined.ClashAt k) class-after work-after
     clash-joined h {class-after} e k n =
         let c : ClashesAt t list class work class-each work-each i = each .clashes h in

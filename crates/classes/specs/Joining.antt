@@ -2,7 +2,8 @@
 use mathlib.Core.Path.{_≡_}
 use mathlib.Core.List.{List, _++_}
 use Prim.Native.Nat.{ℕ, _+_, _*_, _≤_, _<_}
-use lib.ListN.{length, take, drop, replicate}
+use lib.ListN.{length, take, drop}
+use Rattle.rows.specs.Placed.{zeroed}
 use Rattle.graphs.specs.Graph.{WellFormed}
 use Rattle.graphs.specs.Partition.{Pair, pairsOf, Sides, Clash, ClassTable}
 use Rattle.table.specs.Table.{graphOf}
@@ -40,7 +41,7 @@ pub record ClashAtPair (t : List ℕ) (earlier : List Pair) (list class : List �
   pub inside : place < length (pairsOf list)
   pub clash : Clash (graphOf t) (earlier ++ take (place + 1) (pairsOf list))
   pub none-before : Clash (graphOf t) (earlier ++ take place (pairsOf list)) → ⊥
-  pub cleared : class-after ≡ replicate (length t) 0 ++ drop (length t) class
+  pub cleared : class-after ≡ zeroed (length t) class
 
 abbrev pub ByOutcome : List ℕ → List Pair → List ℕ → List ℕ → Joined → List ℕ → Type 0
 ByOutcome t earlier list class Joined.All class-after = AllJoined t earlier list class class-after
@@ -49,4 +50,4 @@ ByOutcome t earlier list class (Joined.ClashAt k) class-after = ClashAtPair t ea
 -- What a join answers and leaves, whatever pairs the row was the class table of. The work entries in use become 0.
 pub record JoinOf (t list class work : List ℕ) (answer : Joined) (class-after work-after : List ℕ) : Type 0 where
   pub outcome : (earlier : List Pair) → Joinable t earlier list class (length work) → ByOutcome t earlier list class answer class-after
-  pub cleared : work-after ≡ replicate (2 * length t) 0 ++ drop (2 * length t) work
+  pub cleared : work-after ≡ zeroed (2 * length t) work

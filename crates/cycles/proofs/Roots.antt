@@ -8,6 +8,7 @@ use Prim.Native.Nat.{ℕ, _+_, _*_, _≤_, _<_}
 use native.Mathlib.Decide.{ℕ-discrete}
 use native.Mathlib.Omega.{arith}
 use lib.ListN.{length, getD, set, drop, replicate}
+use Rattle.rows.specs.Placed.{zeroed}
 use Rattle.rows.proofs.Laws.{behind-cleared, cleared-zero}
 use Rattle.graphs.specs.Partition.{entry}
 use Rattle.cycles.specs.Digraph.{Digraph, Edge, digraphOf, Searchable, Searched}
@@ -118,15 +119,15 @@ module _ {t row : List ℕ} (work : List ℕ) (asked : Searchable t row (length 
       }
 
   -- after the first clearing
-  pub started : {work′ : List ℕ} → work′ ≡ replicate (length t) 0 ++ drop (length t) work → length work′ ≡ length work → Search (digraphOf t row) work′ 0
+  pub started : {work′ : List ℕ} → work′ ≡ zeroed (length t) work → length work′ ≡ length work → Search (digraphOf t row) work′ 0
   started {work′} cleared long =
       start (digraphOf t row) work′ (omega (arith, asked .work-enough)) (asked .counts)
       (λ x h.
       ap (λ (v : List ℕ). getD v x 0) cleared ∙ cleared-zero work (length t) x h)
 
 -- after the last one
-pub searched : {t row u v w x : List ℕ} {answer : Bool} → v ≡ replicate (length t) 0 ++ drop (length t) u
-    → Told (digraphOf t row) v w answer → x ≡ replicate (2 * length t) 0 ++ drop (2 * length t) w → Searched t row u answer x
+pub searched : {t row u v w x : List ℕ} {answer : Bool} → v ≡ zeroed (length t) u
+    → Told (digraphOf t row) v w answer → x ≡ zeroed (2 * length t) w → Searched t row u answer x
 searched {t} {row} {u} {v} first told last =
     record {
       truth = told .truth;

@@ -2,9 +2,10 @@
 -- digraph; where each node is its own class, a cycle of it is a loop of the table. Assumes nothing.
 use mathlib.Core.Path.{_≡_}
 use mathlib.Core.Bool.{Bool, true, false}
-use mathlib.Core.List.{List, _++_}
+use mathlib.Core.List.{List}
 use Prim.Native.Nat.{ℕ, _*_, _≤_, _<_}
-use lib.ListN.{length, drop, replicate}
+use lib.ListN.{length}
+use Rattle.rows.specs.Placed.{zeroed}
 use Rattle.graphs.specs.Graph.{Steps}
 use Rattle.graphs.specs.Partition.{entry}
 use Rattle.table.specs.Table.{degree, childOf, Laid}
@@ -44,4 +45,4 @@ pub record Searchable (t row : List ℕ) (work-room : ℕ) : Type 0 where
 -- What the search answers: the truth on the digraph, with the work entries that it used at zero and the others as they were.
 pub record Searched (t row before : List ℕ) (answer : Bool) (after : List ℕ) : Type 0 where
   pub truth : Returns answer (digraphOf t row)
-  pub cleared : after ≡ replicate (2 * length t) 0 ++ drop (2 * length t) before
+  pub cleared : after ≡ zeroed (2 * length t) before

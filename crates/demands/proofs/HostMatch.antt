@@ -9,8 +9,9 @@ use mathlib.Core.Logic.{_⊎_, inl, inr, ⊎-elim, _↔_}
 use mathlib.Core.List.{List, _++_, append-nil, map}
 use Prim.Native.Nat.{ℕ, _*_}
 use native.Mathlib.Omega.{arith}
-use lib.ListN.{length, take, drop, replicate, length-replicate, drop-of-length-le}
+use lib.ListN.{length, take, replicate, length-replicate, drop-of-length-le}
 use lib.Seq.{take-all}
+use Rattle.rows.specs.Placed.{zeroed}
 use Rattle.answering.specs.Answers.{Answered}
 use Rattle.answering.specs.Buffers.{changesNothing, left}
 use Rattle.answering.proofs.Orders.{rest-answers, none-both, none-parts}
@@ -115,7 +116,7 @@ module _ {bytes : List ℕ} {job : ℕ} {room : List ℕ} (passes : HostPasses b
     left-zero : (n m : ℕ) → n ≡ m → left (numberOf matched) n (replicate m 0) ≡ replicate m 0
     left-zero n m e =
         left-zeroed (numberOf matched) n (replicate m 0) (as-told .late-is)
-        ∙ ap (λ (k : ℕ). replicate k 0 ++ drop k (replicate m 0)) e
+        ∙ ap (λ (k : ℕ). zeroed k (replicate m 0)) e
         ∙ ap (λ (l : List ℕ). replicate m 0 ++ l) (drop-of-length-le (replicate m 0) {i = m} (omega (arith, length-replicate {A = ℕ} m 0)))
         ∙ append-nil (replicate m 0)
 

@@ -1,6 +1,6 @@
 -- What the host call leaves in the room, by its answer: nothing (`room-untouched`), the report (`room-reported`), and the
 -- zeros of a refusal (`room-zero`), the class table of an accepted list (`room-bound`); and that it keeps its length (`room-length`). Assumes nothing.
-use mathlib.Core.Path.{_≡_, refl, sym, ap, ap₂, _∙_}
+use mathlib.Core.Path.{_≡_, refl, ap, ap₂, _∙_}
 use mathlib.Core.Bool.{Bool, true, false, cond}
 use mathlib.Core.Logic.{_⊎_, inl, inr}
 use mathlib.Core.List.{List, _++_, map}

@@ -9,8 +9,8 @@ use native.Mathlib.Omega.{arith}
 use lib.ListN.{length, take, drop}
 use lib.Seq.{take-take, length-take-le}
 use Rattle.words.specs.declared.numbers.PairNumber.{PairNumber}
+use Rattle.rows.specs.Placed.{zeroed}
 use Rattle.rows.proofs.Laws.{behind-stays, behind-cleared}
-use Rattle.answering.specs.Buffers.{zeroed}
 use Rattle.graphs.specs.Graph.{Symbols, Graph}
 use Rattle.graphs.specs.Partition.{Pair, pairsOf, Sides, Clash, ClassTable, apart}
 use Rattle.graphs.proofs.Theorems.{no-pairs-no-clash}

@@ -11,8 +11,9 @@ use lib.Dec.{eqb}
 use lib.ListN.{length, take, drop, replicate, take-append-drop}
 use lib.Seq.{take-all, getD-take}
 use Rattle.words.specs.declared.numbers.PairNumber.{PairNumber}
+use Rattle.rows.specs.Placed.{zeroed}
 use Rattle.answering.specs.Answers.{Answered}
-use Rattle.answering.specs.Buffers.{zeroed, changesNothing}
+use Rattle.answering.specs.Buffers.{changesNothing}
 use Rattle.graphs.specs.Partition.{Pair, pairsOf, Clash, Cycle, ClassTable, isNode, nodes, classes, joins}
 use Rattle.graphs.proofs.Theorems.{no-pairs-no-cycle}
 use Rattle.graphs.proofs.Classes.{clash-grows, first-pairs-grow}
@@ -122,12 +123,12 @@ front-joins t row =
     (count-same (ownNode (graphOf t) row) (ownNode (graphOf t) (take (length t) row)) (length t)
     (λ x h. ap (λ (z : ℕ). isNode (graphOf t .head x) && eqb z x) (sym (getD-take (length t) row x 0 h))))
 
-cleared-row : (t class class-mid : List ℕ) {class-after : List ℕ} → drop (length t) class-mid ≡ drop (length t) class → class-after ≡ replicate (length t) 0 ++ drop (length t) class-mid → class-after ≡ zeroed (length t) class
+cleared-row : (t class class-mid : List ℕ) {class-after : List ℕ} → drop (length t) class-mid ≡ drop (length t) class → class-after ≡ zeroed (length t) class-mid → class-after ≡ zeroed (length t) class
 cleared-row t class class-mid k e = e ∙ ap (λ (rest : List ℕ). replicate (length t) 0 ++ rest) k
 
 module _ {t list class work : List ℕ} (passes : Passes (jobOf t list class work)) where
   pub cycle-verdict : {class-mid work-mid class-after : List ℕ} {all found : ℕ} → Clashless t list all → CycleAt t list class work all found class-mid work-mid
-      → class-after ≡ replicate (length t) 0 ++ drop (length t) class-mid → (at : PairNumber) → at .0 ≡ found → Verdict t list class work (Matched.Cycle at) class-after work-mid
+      → class-after ≡ zeroed (length t) class-mid → (at : PairNumber) → at .0 ≡ found → Verdict t list class work (Matched.Cycle at) class-after work-mid
   unfolding changesNothing
   cycle-verdict {all = all} few c e at n =
       let place : at .0 ≡ c .place + 1 = n ∙ c .numbers in
@@ -148,7 +149,7 @@ module _ {t list class work : List ℕ} (passes : Passes (jobOf t list class wor
     work-kept : work-after ≡ work
     work-kept = row-lent s (until .inside) (until .partitioned) none-there .work-same ∙ until .lent .work-same
 
-    pub clash-verdict : {class-after : List ℕ} → m < length (pairsOf list) → class-after ≡ replicate (length t) 0 ++ drop (length t) class-mid → (at : PairNumber) → at .0 ≡ m + 1
+    pub clash-verdict : {class-after : List ℕ} → m < length (pairsOf list) → class-after ≡ zeroed (length t) class-mid → (at : PairNumber) → at .0 ≡ m + 1
         → Verdict t list class work (Matched.Clash at) class-after work-after
     unfolding changesNothing
     clash-verdict h e at n =
@@ -201,7 +202,7 @@ module _ {t list class work class-mid work-mid work-search : List ℕ} {m : ℕ}
   )
 
   pub cycle-refused : Passes (jobOf t list class work) → {class-cycle work-cycle class-after : List ℕ} {first : ℕ} → CycleAt t list class-mid work-search m first class-cycle work-cycle
-      → class-after ≡ replicate (length t) 0 ++ drop (length t) class-cycle → (at : PairNumber) → at .0 ≡ first → Verdict t list class work (Matched.Cycle at) class-after work-cycle
+      → class-after ≡ zeroed (length t) class-cycle → (at : PairNumber) → at .0 ≡ first → Verdict t list class work (Matched.Cycle at) class-after work-cycle
   cycle-refused passes c e at n =
       cycle-verdict passes joined-clashless
       (record { lent = lent-join both-lent (c .lent); place = c .place; numbers = c .numbers; within = c .within; cycle = c .cycle; none-before = c .none-before }) e at n

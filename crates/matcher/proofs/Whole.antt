@@ -8,9 +8,10 @@ use Prim.Native.Nat.{ℕ, _+_, _*_, _≤_, _<_}
 use native.Mathlib.Omega.{arith}
 use lib.ListN.{length, drop, replicate}
 use Rattle.words.specs.declared.numbers.PairNumber.{PairNumber}
+use Rattle.rows.specs.Placed.{zeroed}
 use Rattle.rows.proofs.Laws.{behind-cleared, cleared-again}
 use Rattle.answering.specs.Answers.{Answered, First, NoneOf}
-use Rattle.answering.specs.Buffers.{zeroed, changesNothing, left}
+use Rattle.answering.specs.Buffers.{changesNothing, left}
 use Rattle.answering.proofs.BufferLaws.{left-zeroed}
 use Rattle.graphs.specs.Partition.{pairsOf}
 use Rattle.table.specs.Faults.{Job, pairAt, badSides, LIST, Fault, number, checkOrder, matchOrder}

@@ -5,8 +5,9 @@ use mathlib.Core.List.{List}
 use Prim.Native.Nat.{ℕ, _+_, _*_, _≤_, _<_}
 use lib.ListN.{length, take, drop}
 use Rattle.words.specs.declared.numbers.PairNumber.{PairNumber}
+use Rattle.rows.specs.Placed.{zeroed}
 use Rattle.answering.specs.Answers.{Answered, NoneOf}
-use Rattle.answering.specs.Buffers.{zeroed, changesNothing}
+use Rattle.answering.specs.Buffers.{changesNothing}
 use Rattle.graphs.specs.Partition.{pairsOf, Clash, Cycle, ClassTable}
 use Rattle.table.specs.Table.{graphOf}
 use Rattle.table.specs.Faults.{Fault, number, checkOrder, matchOrder}

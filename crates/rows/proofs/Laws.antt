@@ -19,7 +19,7 @@ use mathlib.Core.List.{List, [], _∷_, _++_, append-assoc}
 use lib.ListN.{length, take, drop, getD, set, replicate, length-replicate, getD-replicate, List·getD-append, length-set, length-append, length-take, length-drop, take-append-drop}
 use lib.Seq.{drop-cons, take-suc, append-snoc, set-at, take-at, drop-at, length-take-le, take-all, take-append-le, drop-append-le, drop-append-add, drop-drop, sets, sets-eq}
 use Rattle.rows.specs.LittleEndian.{number, bytesOf, numberAt, AllBytes}
-use Rattle.rows.specs.Placed.{placed}
+use Rattle.rows.specs.Placed.{placed, zeroed}
 
 -- ---- numbers as bytes
 
@@ -168,18 +168,18 @@ behind-stays front row k m e h =
     ∙ drop-drop (m - k) k row
     ∙ ap (λ (i : ℕ). drop i row) j
 
-pub behind-cleared : (row : List ℕ) (k m : ℕ) → k ≤ m → drop m (replicate k 0 ++ drop k row) ≡ drop m row
+pub behind-cleared : (row : List ℕ) (k m : ℕ) → k ≤ m → drop m (zeroed k row) ≡ drop m row
 behind-cleared row k m h = behind-stays (replicate k 0) row k m (length-replicate k 0) h
 
 -- an entry of a cleared front is 0
-pub cleared-zero : (row : List ℕ) (n i : ℕ) → i < n → getD (replicate n 0 ++ drop n row) i 0 ≡ 0
+pub cleared-zero : (row : List ℕ) (n i : ℕ) → i < n → getD (zeroed n row) i 0 ≡ 0
 cleared-zero row n i h =
     List·getD-append (replicate n 0) (drop n row) 0 i (omega (arith, length-replicate {A = ℕ} n 0)) ∙ getD-replicate n i 0 0 h
 
 -- ---- one answer
 
 -- A front that is cleared stays so when a part of it is cleared again.
-pub cleared-again : (row : List ℕ) (k n : ℕ) → k ≤ n → replicate k 0 ++ drop k (replicate n 0 ++ row) ≡ replicate n 0 ++ row
+pub cleared-again : (row : List ℕ) (k n : ℕ) → k ≤ n → zeroed k (replicate n 0 ++ row) ≡ replicate n 0 ++ row
 cleared-again row zero n h = refl
 cleared-again row (suc k) zero h = absurd (omega arith)
 cleared-again row (suc k) (suc n) h = ap (λ (rest : List ℕ). 0 ∷ rest) (cleared-again row k n (omega arith))

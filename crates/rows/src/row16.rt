@@ -1,8 +1,8 @@
 // Rows of numbers of 16 bits: read and cleared.
 ghost use mathlib.Core.Path.{_≡_};
 ghost use Prim.Native.Nat.{_<_, _≤_};
-ghost use mathlib.Core.List.{_++_};
-ghost use lib.ListN.{length, getD, drop, replicate};
+ghost use lib.ListN.{length, getD};
+ghost use Rattle.rows.specs.Placed.{zeroed};
 
 // The entry of row at i.
 pub fn at(row: &[u16], i: usize) -> usize
@@ -15,7 +15,7 @@ pub fn at(row: &[u16], i: usize) -> usize
 // Sets the first n entries of row to 0. The entries after them stay.
 pub fn clear16(row: &mut [u16], n: usize)
     requires { ⌜ n ≤ length (now row) ⌝ }
-    ensures { λ _. ⌜ now (row .exit) ≡ replicate n 0 ++ drop n (now (row .entry)) ⌝ }
+    ensures { λ _. ⌜ now (row .exit) ≡ zeroed n (now (row .entry)) ⌝ }
 {
     let mut i = 0;
     while i < n {

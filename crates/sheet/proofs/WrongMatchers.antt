@@ -13,10 +13,10 @@ use borrow.Author.Tests.{ltb-true}
 use lib.Dec.{ltb}
 use lib.ListN.{length, getD, take, replicate, length-replicate, getD-replicate}
 use lib.Seq.{getD-take}
+use Rattle.rows.specs.Placed.{zeroed}
 use Rattle.rows.proofs.Laws.{cleared-zero}
 use Rattle.words.specs.Word.{kindOf}
 use Rattle.answering.specs.Answers.{Answered}
-use Rattle.answering.specs.Buffers.{zeroed}
 use Rattle.answering.proofs.Orders.{passed-none, none-parts}
 use Rattle.graphs.specs.Partition.{pairsOf, ClassTable, joins}
 use Rattle.graphs.specs.Term.{Term, Terms, var, app, apply, applyAll, each, grown, tree, below, Unifies, answer}

@@ -24,6 +24,7 @@ pub record Job : Type 0 where
   pub class-room : ℕ
   pub work-room : ℕ
 
+-- the same, by its parts
 abbrev pub sent : List ℕ → List ℕ → ℕ → ℕ → Job
 sent t list class-room work-room = record { table = t; list = list; class-room = class-room; work-room = work-room }
 
