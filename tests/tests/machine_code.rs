@@ -116,14 +116,17 @@ fn what_stands_before_a_jump_by_a_table() {
     let read = ["movslq (%rsi,%rdi,4),%rax", "add %rsi,%rax"];
     let second = ".text.f+0x000000000000000a";
     let copied = |copy| jumps_after(&[read[0], read[1], copy], second);
-    let library = copied("mov %rdi,%rdx");
-    assert_eq!(library.functions[0].tables, [[5, 6]]);
-    assert_eq!(calls::through_a_register(&library), Vec::<String>::new());
+    for copy in ["mov %rdi,%rdx", "mov 0x40(%rsp),%rbp"] {
+        let library = copied(copy);
+        assert_eq!(library.functions[0].tables, [[5, 6]]);
+        assert_eq!(calls::through_a_register(&library), Vec::<String>::new());
+    }
     for other in [
         "mov %rdi,%rax",
         "mov %edi,%eax",
         "mov %edi,%r8d",
         "mov (%rdi),%rdx",
+        "mov 0x40(%rsp),%rax",
         "inc %rax",
     ] {
         assert_eq!(

@@ -85,9 +85,10 @@ fn by_a_table(function: &Function, i: usize) -> bool {
         && matches!(&read.operands[..], [from, to] if from.starts_with(&entry) && to == target)
 }
 
-/// Whether an instruction copies a whole register into another one than this.
+/// Whether an instruction fills another register than this, whole, from a register or from the function's own frame.
 fn fills_another(copy: &Instruction, register: &str) -> bool {
     let whole = |name: &String| name.starts_with("%r") && !name.ends_with(['d', 'w', 'b']);
+    let own = |from: &String| whole(from) || from.starts_with("0x") && from.ends_with("(%rsp)");
     copy.mnemonic == "mov"
-        && matches!(&copy.operands[..], [from, to] if whole(from) && whole(to) && to != register)
+        && matches!(&copy.operands[..], [from, to] if own(from) && whole(to) && to != register)
 }
