@@ -84,9 +84,13 @@ pub fn head(table: &[u32], x: Address) -> Head
 {
     let at = x.0 as usize;
     let word = table[at];
-    match word::kind(word) {
-        Kind::Function => Head::Function(word::label(word), word::content(table[at + 1])),
-        Kind::Constant => Head::Constant(word::label(word)),
-        _ => Head::Variable(word::label(word)),
+    let kind = word::kind(word);
+    if let Kind::Function = kind {
+        return Head::Function(word::label(word), word::content(table[at + 1]));
+    }
+    if let Kind::Constant = kind {
+        Head::Constant(word::label(word))
+    } else {
+        Head::Variable(word::label(word))
     }
 }
