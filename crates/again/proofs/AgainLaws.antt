@@ -7,6 +7,7 @@ use Prim.Native.Nat.{ℕ, _≤_}
 use native.Mathlib.Omega.{arith}
 use lib.ListN.{length, take}
 use Rattle.rows.specs.LittleEndian.{AllBytes}
+use Rattle.words.specs.Limits.{mostBytes}
 use Rattle.jobfile.specs.File.{GoodFile}
 use Rattle.jobfile.specs.Reader.{yieldedSizes, ReadOf, BodiesOf}
 use Rattle.jobfile.specs.Writer.{WriteOf}
@@ -24,7 +25,7 @@ nothing-written : {sizes bodies room after : List ℕ} {w : WriteAnswer} → siz
 nothing-written {sizes} {bodies} {room} {after} {w} e r =
     write-only (subst (λ (l : List ℕ). WriteOf l bodies room w after) e r) (write-contents [] bodies room (inr (inl refl))) .1
 
-pub read-written : {file part room after : List ℕ} {answer : FileAnswer} {sizes : Sizes} {w : WriteAnswer} → AllBytes file → 32768 ≤ length room
+pub read-written : {file part room after : List ℕ} {answer : FileAnswer} {sizes : Sizes} {w : WriteAnswer} → AllBytes file → mostBytes ≤ length room
     → ReadOf file answer sizes → BodiesOf file part → WriteOf (take (sizes .count) (sizes .row)) part room w after → AgainOf file room answer after
 unfolding roomAfter
 read-written {file} {part} {room} {after} {answer} {sizes} {w} all enough r b written = record { judged = r .judged; same = go answer r (read-sizes r) }

@@ -6,6 +6,7 @@ use jobfile::answers;
 use jobfile::answers::FileAnswer;
 use libc::STDIN_FILENO;
 use libc::STDOUT_FILENO;
+use words::limits::MOST_BYTES;
 
 // Prints `file`, the answer and the place of a refusal.
 fn print_refusal(answer: FileAnswer) {
@@ -30,7 +31,7 @@ fn print_again(answer: FileAnswer, room: &[u8], size: usize) {
 // A file has at most 32,768 bytes; one byte more is read, so that a longer one is refused and not cut short.
 fn main() {
     let mut file = [0u8; 32769];
-    let mut room = [0u8; 32768];
+    let mut room = [0u8; MOST_BYTES];
     let size = io::read_full(STDIN_FILENO, &mut file);
     let answer = written::again(&file[..size], &mut room);
     print_again(answer, &room, size);

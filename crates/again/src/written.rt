@@ -2,6 +2,7 @@
 ghost use mathlib.Core.Path.{_≡_};
 ghost use Prim.Native.Nat.{_≤_};
 ghost use lib.ListN.{length, take};
+ghost use Rattle.words.specs.Limits.{mostBytes};
 ghost use Rattle.again.specs.Again.{AgainOf};
 use jobfile::answers::FileAnswer;
 
@@ -17,7 +18,7 @@ pub(crate) fn front(bytes: &[u8], n: usize) -> &[u8]
 
 // Reads a file and writes what it yields into room. A good file is in front of room then; a refusal writes nothing.
 pub(crate) fn again(file: &[u8], room: &mut [u8]) -> FileAnswer
-    requires { ⌜ 32768 ≤ length (now room) ⌝ }
+    requires { ⌜ mostBytes ≤ length (now room) ⌝ }
     ensures { λ r. ⌜ AgainOf (now (file .entry)) (now (room .entry)) r (now (room .exit)) ⌝ }
 {
     let read = jobfile::read(file);

@@ -11,6 +11,7 @@ use Prim.Native.Nat.{ℕ, _*_, _≤_, _<_}
 use native.Mathlib.Omega.{arith}
 use lib.ListN.{length, drop, replicate}
 use Rattle.rows.specs.Placed.{zeroed}
+use Rattle.words.specs.Limits.{mostWords}
 use Rattle.answering.specs.declared.fault.TableFault.{TableFault}
 use Rattle.answering.specs.declared.fault.TableFault.the-variants.{Size, Room, Name, Loop}
 use Rattle.answering.specs.Answers.{NoneOf}
@@ -123,14 +124,14 @@ cleared : (n : ℕ) (row stage : List ℕ) {after : List ℕ} → after ≡ zero
 cleared n row stage e k = e ∙ ap (λ (rest : List ℕ). replicate n 0 ++ rest) k
 
 module _ (t class work : List ℕ) where
-  pub check-size : (length t ≡ 0) ⊎ (4096 < length t) → CheckOf t class work (Refused Size) class work
+  pub check-size : (length t ≡ 0) ⊎ (mostWords < length t) → CheckOf t class work (Refused Size) class work
   unfolding number left changesNothing
   check-size h = record { answered = inl (refl, size-fault h); class-left = refl; work-left = refl }
 
-  no-size : 0 < length t → length t ≤ 4096 → (p : ℕ) → Fault (jobOf t class work) SIZE p → ⊥
+  no-size : 0 < length t → length t ≤ mostWords → (p : ℕ) → Fault (jobOf t class work) SIZE p → ⊥
   no-size l u p (size-fault h) = ⊎-elim (λ e. omega arith) (λ e. omega arith) h
 
-  pub check-room : 0 < length t → length t ≤ 4096 → (length class < length t) ⊎ (length work < 4 * length t) → CheckOf t class work (Refused Room) class work
+  pub check-room : 0 < length t → length t ≤ mostWords → (length class < length t) ⊎ (length work < 4 * length t) → CheckOf t class work (Refused Room) class work
   unfolding number left changesNothing
   check-room l u h = record { answered = inr (no-size l u, inl (refl, room-fault h)); class-left = refl; work-left = refl }
 

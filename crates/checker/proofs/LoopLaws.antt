@@ -10,6 +10,7 @@ use Prim.Native.Nat.{ℕ, zero, suc, _+_, _*_, _≤_, _<_}
 use native.Mathlib.Omega.{arith}
 use lib.ListN.{length, getD, drop, length-append, List·getD-append}
 use Rattle.rows.proofs.Laws.{behind-stays, behind-cleared}
+use Rattle.words.specs.Limits.{mostWords}
 use Rattle.graphs.specs.Graph.{Child, Steps}
 use Rattle.graphs.specs.Partition.{entry}
 use Rattle.graphs.proofs.Finite.{steps-map}
@@ -55,7 +56,7 @@ module _ (t row rest : List ℕ) (own : row ≡ counting 0 (length t) ++ rest) w
     own-child : (x i : ℕ) → i < degree t x → entry row (childOf t x i) ≡ childOf t x i
     own-child x i h = own-entry (childOf t x i) (child-below x i h)
 
-    pub own-searchable : (work-room : ℕ) → length t ≤ 4096 → 2 * length t ≤ work-room → Searchable t row work-room
+    pub own-searchable : (work-room : ℕ) → length t ≤ mostWords → 2 * length t ≤ work-room → Searchable t row work-room
     own-searchable work-room small enough =
         record {
           small = small;

@@ -18,6 +18,7 @@ use lib.Seq.{getD-set-same, getD-set-other, drop-set-lt}
 use borrow.Author.Count.{below-more}
 use Rattle.rows.specs.Placed.{zeroed}
 use Rattle.rows.proofs.Laws.{behind-cleared, cleared-zero}
+use Rattle.words.specs.Limits.{mostWords}
 use Rattle.words.specs.Word.{kindOf}
 use Rattle.words.specs.declared.kind.Kind.the-variants.{Variable}
 use Rattle.table.specs.Table.{wordAt, kindAt, contentAt, nodeKind}
@@ -120,7 +121,7 @@ module _ {n : ℕ} {entry cleared : List ℕ} (c : Cleared n entry cleared) wher
 
 pub chained-none :
     {t entry cleared : List ℕ} →
-    length t ≤ 4096 →
+    length t ≤ mostWords →
     4 * length t ≤ length entry →
     wordAt t 0 ≡ 0 →
     cleared ≡ zeroed (3 * length t) entry →

@@ -5,6 +5,7 @@ use mathlib.Core.Bool.{Bool, true, false}
 use mathlib.Core.List.{List}
 use Prim.Native.Nat.{ℕ, _+_, _*_, _/_, _%_, _≤_, _<_}
 use lib.ListN.{length, getD, drop}
+use Rattle.words.specs.Limits.{mostWords}
 use Rattle.words.specs.declared.kind.Kind.the-variants.{Variable, NoWord}
 use Rattle.table.specs.Table.{kindAt, contentAt}
 use Rattle.table.specs.Faults.{Repeats}
@@ -59,7 +60,7 @@ nextIn t work b = getD work (3 * length t + b) 0
 -- The work row has room, and holds the chains of the variables below a. Word 0 is no variable.
 pub record Chained (t work : List ℕ) (a : ℕ) : Type 0 where
   pub no-variable : kindAt t 0 ≡ NoWord
-  pub small : length t ≤ 4096
+  pub small : length t ≤ mostWords
   pub room : 4 * length t ≤ length work
   pub chains : Chains t (3 * length t) a (headIn work) (nextIn t work)
 

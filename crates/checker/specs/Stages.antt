@@ -3,6 +3,7 @@ use mathlib.Core.Path.{_≡_}
 use mathlib.Core.List.{List, [], _∷_}
 use Prim.Native.Nat.{ℕ, zero, suc, _*_, _≤_, _<_}
 use lib.ListN.{length, drop}
+use Rattle.words.specs.Limits.{mostWords}
 use Rattle.answering.specs.Answers.{Answered}
 use Rattle.table.specs.Faults.{sent, Row, Fault, number}
 use Rattle.checker.specs.declared.answer.Checked.{Checked}
@@ -22,7 +23,7 @@ counting from (suc k) = from ∷ counting (suc from) k
 -- a table, of a size that is allowed, with room for it
 pub record Roomy (t class work : List ℕ) : Type 0 where
   pub some-word : 0 < length t
-  pub small : length t ≤ 4096
+  pub small : length t ≤ mostWords
   pub class-enough : length t ≤ length class
   pub work-enough : 4 * length t ≤ length work
 

@@ -14,9 +14,7 @@ mod sound;
 ghost use Rattle.checker.specs.Check.{CheckOf};
 use answer::Checked;
 use answering::fault::TableFault;
-
-// A table has at most so many words.
-const MOST_WORDS: usize = 4096;
+use words::limits::MOST_WORDS;
 
 // The answer of the table check by itself, for any table, lengths and old contents.
 //

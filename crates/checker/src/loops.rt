@@ -3,6 +3,7 @@ ghost use mathlib.Core.Path.{_≡_};
 ghost use mathlib.Core.List.{[], _∷_, _++_};
 ghost use Prim.Native.Nat.{_≤_};
 ghost use lib.ListN.{length, drop};
+ghost use Rattle.words.specs.Limits.{mostWords};
 ghost use Rattle.table.specs.Faults.{LOOP};
 ghost use Rattle.table.specs.Shaped.{Shaped};
 ghost use Rattle.checker.specs.Stages.{counting, Roomy, Stage};
@@ -11,7 +12,7 @@ use answering::fault::TableFault;
 
 // Each of the first n addresses becomes its own class.
 fn own_classes(class: &mut [u16], n: usize)
-    requires { ⌜ (n ≤ length (now class)) × (n ≤ 4096) ⌝ }
+    requires { ⌜ (n ≤ length (now class)) × (n ≤ mostWords) ⌝ }
     ensures { λ _. ⌜ now (class .exit) ≡ counting 0 n ++ drop n (now (class .entry)) ⌝ }
 {
     let mut x = 0;

@@ -11,6 +11,7 @@
 ghost use mathlib.Core.Path.{_≡_};
 ghost use Prim.Native.Nat.{_+_, _*_, _<_, _≤_};
 ghost use lib.ListN.{length};
+ghost use Rattle.words.specs.Limits.{mostWords};
 ghost use Rattle.words.specs.declared.kind.Kind.{Kind};
 ghost use Rattle.table.specs.Faults.{Repeats};
 ghost use Rattle.table.specs.Table.{wordAt, kindAt, contentAt};
@@ -98,7 +99,7 @@ fn repeats_name(table: &[u32], work: &mut [u16], at: usize) -> bool
 
 // Every chain becomes empty. A link is written before it is read, so only the beginnings are cleared.
 pub(crate) fn begin_chains(table: &[u32], work: &mut [u16])
-    requires { ⌜ (length (now table) ≤ 4096) × (4 * length (now table) ≤ length (now work)) × (wordAt (now table) 0 ≡ 0) ⌝ }
+    requires { ⌜ (length (now table) ≤ mostWords) × (4 * length (now table) ≤ length (now work)) × (wordAt (now table) 0 ≡ 0) ⌝ }
     ensures { λ _. ⌜ ChainedOn (now (table .entry)) (now (work .entry)) (now (work .exit)) 1 ⌝ }
 {
     rows::clear16(work, STARTS_A_WORD * table.len());
@@ -107,7 +108,7 @@ pub(crate) fn begin_chains(table: &[u32], work: &mut [u16])
 // The lowest address of a variable whose label stood earlier, or the table's length where there is
 // none. The first 4n entries of the work row are written over, and nothing is said of them.
 pub(crate) fn first_repeated_name(table: &[u32], work: &mut [u16]) -> usize
-    requires { ⌜ (0 < length (now table)) × (length (now table) ≤ 4096) × (4 * length (now table) ≤ length (now work)) × (wordAt (now table) 0 ≡ 0) ⌝ }
+    requires { ⌜ (0 < length (now table)) × (length (now table) ≤ mostWords) × (4 * length (now table) ≤ length (now work)) × (wordAt (now table) 0 ≡ 0) ⌝ }
     ensures { λ r. ⌜ FirstRepeated (now (table .entry)) (now (work .entry)) (now (work .exit)) r ⌝ }
 {
     begin_chains(table, work);

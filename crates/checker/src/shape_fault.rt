@@ -1,6 +1,7 @@
 // The answers 3, 4 and 5: words, layout and pointers.
 ghost use Prim.Native.Nat.{_≤_};
 ghost use lib.ListN.{length};
+ghost use Rattle.words.specs.Limits.{mostWords};
 ghost use Rattle.table.specs.Faults.{shapeRows};
 ghost use Rattle.checker.specs.Stages.{ByRows};
 use crate::answer::Checked;
@@ -13,7 +14,7 @@ use words::numbers::Address;
 
 // The answer by the rows 3, 4 and 5, found by a pass over the table for each.
 pub(crate) fn row_by_row(table: &[u32]) -> Checked
-    requires { ⌜ length (now table) ≤ 4096 ⌝ }
+    requires { ⌜ length (now table) ≤ mostWords ⌝ }
     ensures { λ r. ⌜ ByRows shapeRows (now (table .entry)) r ⌝ }
 {
     let word = word_fault::first_bad_word(table);

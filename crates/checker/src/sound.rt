@@ -3,6 +3,7 @@
 ghost use mathlib.Core.Path.{_≡_};
 ghost use Prim.Native.Nat.{_*_, _<_, _≤_};
 ghost use lib.ListN.{length};
+ghost use Rattle.words.specs.Limits.{mostWords};
 ghost use Rattle.table.specs.Layout.{item, count};
 ghost use Rattle.checker.specs.Names.{Chained};
 ghost use Rattle.checker.specs.Sound.{soundCount, AsArgument, AsArguments, NextItem, SoundTable};
@@ -99,7 +100,7 @@ fn after_item(table: &[u32], work: &mut [u16], at: usize) -> usize
 // Whether none of the rows from 3 to 6 applies. Nothing is said of a table that fails, nor of the
 // first 4n entries of the work row, which are written over.
 pub(crate) fn is_sound(table: &[u32], work: &mut [u16]) -> bool
-    requires { ⌜ (0 < length (now table)) × (length (now table) ≤ 4096) × (4 * length (now table) ≤ length (now work)) ⌝ }
+    requires { ⌜ (0 < length (now table)) × (length (now table) ≤ mostWords) × (4 * length (now table) ≤ length (now work)) ⌝ }
     ensures { λ r. ⌜ SoundTable (now (table .entry)) (now (work .entry)) (now (work .exit)) r ⌝ }
 {
     if table[0] != 0 {

@@ -1,6 +1,7 @@
 // The forest made flat: each entry becomes the root, which is the name of the class.
 ghost use Prim.Native.Nat.{_<_, _≤_};
 ghost use lib.ListN.{length};
+ghost use Rattle.words.specs.Limits.{mostWords};
 ghost use Rattle.classes.specs.Steps.Forest.{Forest, Led, Flattened};
 use crate::forest;
 use words::numbers::Address;
@@ -20,7 +21,7 @@ fn lead_to_root(table: &[u32], class: &mut [u16], x: Address)
 
 // Leads each entry to its root. What is no node has entry 0, as word 0 has, so it keeps 0.
 pub fn flatten(table: &[u32], class: &mut [u16])
-    requires { ⌜ Forest (now table) (now class) × (length (now table) ≤ 4096) ⌝ }
+    requires { ⌜ Forest (now table) (now class) × (length (now table) ≤ mostWords) ⌝ }
     ensures { λ _. ⌜ Flattened (now (table .entry)) (now (class .entry)) (now (class .exit)) ⌝ }
 {
     let mut x = 0;

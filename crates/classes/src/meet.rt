@@ -2,6 +2,7 @@
 ghost use mathlib.Core.Path.{_≡_};
 ghost use Prim.Native.Nat.{_+_, _*_, _<_, _≤_};
 ghost use lib.ListN.{length, set};
+ghost use Rattle.words.specs.Limits.{mostWords};
 ghost use Rattle.graphs.specs.Graph.{Node};
 ghost use Rattle.graphs.specs.Partition.{key as keyIn};
 ghost use Rattle.table.specs.Table.{graphOf, Laid};
@@ -32,7 +33,7 @@ fn key(table: &[u32], x: Address) -> usize
 
 // Lets two functions wait for their children to meet.
 fn push(work: &mut [u16], waiting: usize, f: Address, g: Address)
-    requires { ⌜ (2 * waiting + 1 < length (now work)) × (waiting ≤ 4096) ⌝ }
+    requires { ⌜ (2 * waiting + 1 < length (now work)) × (waiting ≤ mostWords) ⌝ }
     ensures { λ _. ⌜ now (work .exit) ≡ set (set (now (work .entry)) (2 * waiting) (f .0)) (2 * waiting + 1) (g .0) ⌝ }
 {
     work[2 * waiting] = f.0;

@@ -7,6 +7,7 @@ use Prim.Native.Nat.{ℕ, zero, suc, _+_, _-_, _*_, _≤_, _<_}
 use native.Mathlib.Decide.{ℕ-discrete}
 use native.Mathlib.Omega.{arith}
 use lib.ListN.{length}
+use Rattle.words.specs.Limits.{mostArguments}
 use Rattle.graphs.specs.Graph.{Steps, one, more}
 use Rattle.graphs.proofs.Finite.{steps-snoc}
 use Rattle.cycles.specs.Digraph.{Digraph, Edge, Returns}
@@ -57,7 +58,7 @@ safe-no-return {D} {x} (safe ends) (one edge) = safe-no-return (ends x edge) (on
 safe-no-return {D} {x} (safe ends) (more {y = y} edge rest) = safe-no-return (ends y edge) (steps-snoc rest edge)
 
 -- with all marks at 0 the search can start
-pub start : (D : Digraph) (w : List ℕ) → 2 * D .size ≤ length w → ((x : ℕ) → D .count x ≤ 255) → ((x : ℕ) → x < D .size → mark w x ≡ 0) → Search D w 0
+pub start : (D : Digraph) (w : List ℕ) → 2 * D .size ≤ length w → ((x : ℕ) → D .count x ≤ mostArguments) → ((x : ℕ) → x < D .size → mark w x ≡ 0) → Search D w 0
 start D w room few-edges zeros =
     record {
       room = room;

@@ -6,6 +6,7 @@ use mathlib.Core.List.{List}
 use Prim.Native.Nat.{ℕ, _*_, _≤_, _<_}
 use lib.ListN.{length}
 use Rattle.rows.specs.Placed.{zeroed}
+use Rattle.words.specs.Limits.{mostWords, mostArguments}
 use Rattle.graphs.specs.Graph.{Steps}
 use Rattle.graphs.specs.Partition.{entry}
 use Rattle.table.specs.Table.{degree, childOf, Laid}
@@ -33,9 +34,9 @@ Returns false D = (x : ℕ) → Steps (Edge D) x x → ⊥
 -- What the search asks: a table whose blocks and children lie inside it, a class row in which the name of each child's class
 -- is the address of a word and its own entry, and two entries of work for each word.
 pub record Searchable (t row : List ℕ) (work-room : ℕ) : Type 0 where
-  pub small : length t ≤ 4096
+  pub small : length t ≤ mostWords
   pub laid : Laid t
-  pub counts : (x : ℕ) → degree t x ≤ 255
+  pub counts : (x : ℕ) → degree t x ≤ mostArguments
   pub row-room : length t ≤ length row
   pub work-enough : 2 * length t ≤ work-room
   pub child-inside : (x i : ℕ) → i < degree t x → childOf t x i < length t

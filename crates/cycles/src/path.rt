@@ -2,6 +2,7 @@
 ghost use mathlib.Core.Path.{_≡_};
 ghost use Prim.Native.Nat.{_+_, _-_, _<_, _≤_};
 ghost use lib.ListN.{length, getD, set};
+ghost use Rattle.words.specs.Limits.{mostWords};
 ghost use Rattle.table.specs.Table.{degree};
 ghost use Rattle.cycles.specs.Digraph.{digraphOf};
 ghost use Rattle.cycles.specs.Steps.Marks.{SearchableRows, Open, Sure, Passed, finishedMark, mark};
@@ -13,7 +14,7 @@ const FINISHED: usize = 257;
 
 // Marks x as begun, and puts it on the path at a depth, behind n marks.
 pub fn push(work: &mut [u16], n: usize, depth: usize, x: usize)
-    requires { ⌜ (n + depth < length (now work)) × (x < n) × (n ≤ 4096) ⌝ }
+    requires { ⌜ (n + depth < length (now work)) × (x < n) × (n ≤ mostWords) ⌝ }
     ensures { λ _. ⌜ now (work .exit) ≡ set (set (now (work .entry)) x 1) (n + depth) x ⌝ }
 {
     reads::put(work, x, 1);
@@ -22,7 +23,7 @@ pub fn push(work: &mut [u16], n: usize, depth: usize, x: usize)
 
 // Goes down the edge at place j of x, the end of the path, to y. The edges before it are passed over.
 pub fn follow(work: &mut [u16], n: usize, depth: usize, x: usize, j: usize, y: usize)
-    requires { ⌜ (n + depth < length (now work)) × (x < n) × (j < 256) × (y < n) × (n ≤ 4096) ⌝ }
+    requires { ⌜ (n + depth < length (now work)) × (x < n) × (j < 256) × (y < n) × (n ≤ mostWords) ⌝ }
     ensures { λ _. ⌜ now (work .exit) ≡ set (set (set (now (work .entry)) x (j + 1)) y 1) (n + depth) y ⌝ }
 {
     reads::put(work, x, j + 1);
@@ -31,7 +32,7 @@ pub fn follow(work: &mut [u16], n: usize, depth: usize, x: usize, j: usize, y: u
 
 // The end of a path that is not empty, behind n marks.
 pub fn end(work: &[u16], n: usize, depth: usize) -> usize
-    requires { ⌜ (0 < depth) × (depth ≤ n) × (n + n ≤ length (now work)) × (n ≤ 4096) ⌝ }
+    requires { ⌜ (0 < depth) × (depth ≤ n) × (n + n ≤ length (now work)) × (n ≤ mostWords) ⌝ }
     ensures { λ r. ⌜ r ≡ getD (now (work .entry)) (n + (depth - 1)) 0 ⌝ }
 {
     rows::at(work, n + (depth - 1))
@@ -47,7 +48,7 @@ pub fn finish(work: &mut [u16], x: usize)
 
 // Whether there is something to look for from y: it can have edges, and is not finished.
 fn is_open(table: &[u32], work: &[u16], y: usize) -> bool
-    requires { ⌜ (length (now table) ≤ 4096) × (y < length (now table)) × (length (now table) ≤ length (now work)) ⌝ }
+    requires { ⌜ (length (now table) ≤ mostWords) × (y < length (now table)) × (length (now table) ≤ length (now work)) ⌝ }
     ensures { λ r. ⌜ Open (degree (now (table .entry)) y) (mark (now (work .entry)) y) r ⌝ }
 {
     if !reads::has_edges(table, y) {

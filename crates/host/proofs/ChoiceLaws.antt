@@ -10,6 +10,7 @@ use mathlib.Core.List.{List, map}
 use Prim.Native.Nat.{ℕ, _+_, _-_, _*_, _/_, _≤_, _<_}
 use native.Mathlib.Omega.{arith}
 use lib.ListN.{length, getD, replicate, List·getD-append}
+use Rattle.words.specs.Limits.{mostWords, mostSizes}
 use Rattle.answering.specs.Answers.{Answered, NoneOf}
 use Rattle.answering.proofs.Orders.{each, answered-tested, passed-none, refused-first, none-first, none-both, carried, carried-back, none-carried}
 use Rattle.table.specs.Faults.{Row as MatchRow, Fault, number as matchNumber}
@@ -93,14 +94,14 @@ module _ (bytes : List ℕ) (job : ℕ) (room : List ℕ) where
     no-job-row some-job inside p (job-fault (inl e)) = omega arith
     no-job-row some-job inside p (job-fault (inr e)) = omega arith
 
-    no-size-row : 1 ≤ wordsOf bytes job → wordsOf bytes job ≤ 4096 → (p : ℕ) → HostFault bytes job room SIZE p → ⊥
+    no-size-row : 1 ≤ wordsOf bytes job → wordsOf bytes job ≤ mostWords → (p : ℕ) → HostFault bytes job room SIZE p → ⊥
     no-size-row some-word few-words p (size-fault (inl e)) = omega arith
     no-size-row some-word few-words p (size-fault (inr e)) = omega arith
 
     no-room-row : 6 + 2 * wordsOf bytes job ≤ length room → (p : ℕ) → HostFault bytes job room ROOM p → ⊥
     no-room-row enough p (room-fault e) = omega arith
 
-    pub none-early : 1 ≤ job → job ≤ countIn bytes → 1 ≤ wordsOf bytes job → wordsOf bytes job ≤ 4096 → 6 + 2 * wordsOf bytes job ≤ length room
+    pub none-early : 1 ≤ job → job ≤ countIn bytes → 1 ≤ wordsOf bytes job → wordsOf bytes job ≤ mostWords → 6 + 2 * wordsOf bytes job ≤ length room
         → NoneOf (HostFault bytes job room) earlyOrder
     none-early some-job inside some-word few-words enough =
         none-both (HostFault bytes job room) (map of-file readOrder) callRows no-file-row (no-job-row some-job inside, (no-size-row some-word few-words, (no-room-row enough, tt)))
@@ -109,7 +110,7 @@ module _ (bytes : List ℕ) (job : ℕ) (room : List ℕ) where
         → Sized n p (length room) chosen → Choice bytes job room chosen
     unfolding number
     sized-choice some-job inside words pairs (no-size h) =
-        record { place = 0; refused = λ z. omega arith; answered = after-file 1 0 (inr (no-job-row some-job inside, inl (refl, size-fault (subst (λ (n : ℕ). (n ≡ 0) ⊎ (4096 < n)) words h)))) }
+        record { place = 0; refused = λ z. omega arith; answered = after-file 1 0 (inr (no-job-row some-job inside, inl (refl, size-fault (subst (λ (n : ℕ). (n ≡ 0) ⊎ (mostWords < n)) words h)))) }
     sized-choice some-job inside words pairs (no-room s f h) =
         record {
           place = 0;
@@ -143,7 +144,7 @@ chosen-numbered {bytes} {job} room {answer} {sizes} read e z by =
     let counted : sizes .count ≡ length (sizesIn bytes) = read .yielded .counted ∙ ap (λ (q : FileAnswer). length (yieldedSizes q bytes)) is in
     let size : length (sizesIn bytes) ≡ 2 * countIn bytes = length-sizesFrom (countIn bytes) 0 bytes in
     let at : (i : ℕ) → i < 2 * countIn bytes → getD (sizes .row) i 0 ≡ getD (sizesIn bytes) i 0 =
-    λ i h. ap (λ (l : List ℕ). getD l i 0) row ∙ List·getD-append (sizesIn bytes) (replicate (128 - length (sizesIn bytes)) 0) 0 i (omega arith) in
+    λ i h. ap (λ (l : List ℕ). getD l i 0) row ∙ List·getD-append (sizesIn bytes) (replicate (mostSizes - length (sizesIn bytes)) 0) 0 i (omega arith) in
     numbered-choice bytes job room (judged-good (subst (Judged bytes) is (read .judged))) (sizes .row) (omega arith)
     (λ k h. let held = entry-in-sizes bytes k h in (at (2 * k) (omega arith) ∙ held .0, at (2 * k + 1) (omega arith) ∙ held .1))
     by

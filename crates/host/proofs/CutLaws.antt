@@ -5,12 +5,13 @@ use mathlib.Core.Logic.{_⊎_, inl, inr}
 use mathlib.Core.List.{List, _++_}
 use Prim.Native.Nat.{ℕ, _<_}
 use lib.ListN.{length}
+use Rattle.words.specs.Limits.{mostEntries}
 use Rattle.answering.specs.Answers.{Answered, NoneOf}
 use Rattle.answering.proofs.Orders.{refused-first, none-first, answered-parts}
 use Rattle.table.specs.Faults.{sent, number, Fault, list-fault, checkOrder, listRows, pairRows, matchOrder}
 use Rattle.table.proofs.OneAnswer.{check-off-list, none-off-list}
 
-module _ (t list other : List ℕ) (c w : ℕ) (over : 512 < length list) (too : 512 < length other) where
+module _ (t list other : List ℕ) (c w : ℕ) (over : mostEntries < length list) (too : mostEntries < length other) where
   long-rows : (a p : ℕ) → ((a ≡ 0 → ⊥) × Answered number (Fault (sent t list c w)) checkOrder a p) ⊎ (NoneOf (Fault (sent t list c w)) checkOrder × Answered number (Fault (sent t list c w)) (listRows ++ pairRows) a p)
       → Answered number (Fault (sent t other c w)) matchOrder a p
   unfolding number

@@ -13,6 +13,7 @@ use borrow.Author.Tests.{not-true}
 use lib.ListN.{length, take, drop, replicate, drop-of-length-le}
 use lib.Seq.{take-all, length-take-le}
 use Rattle.rows.specs.Placed.{placed}
+use Rattle.words.specs.Limits.{mostWords, mostEntries}
 use Rattle.answering.specs.Answers.{Answered, NoneOf}
 use Rattle.answering.specs.Buffers.{changesNothing}
 use Rattle.answering.proofs.Orders.{answered-tested, passed-none, none-first, rest-answers, none-parts}
@@ -29,7 +30,7 @@ use Rattle.jobfile.specs.Body.{taken}
 use Rattle.jobfile.proofs.NumberLaws.{length-rowIn}
 use Rattle.jobfile.proofs.Theorems.{body-size, body-words, body-pairs}
 use Rattle.host.specs.Host.{entryOf, wordsOf, tableOf, listOf, jobOf, number, HostFault, earlyOrder, lateOrder, reportOf, writesNothing, HostOf}
-use Rattle.host.specs.Stages.{Open, Roomy, Copyable, Lent}
+use Rattle.host.specs.Stages.{listRoom, Open, Roomy, Copyable, Lent}
 use Rattle.host.proofs.ReportLaws.{room-reported}
 use Rattle.host.proofs.ChoiceLaws.{from-match, none-early}
 use Rattle.host.proofs.CutLaws.{long-lists}
@@ -64,14 +65,14 @@ abbrev lateRows : List MatchRow
 lateRows = tableRows ++ listRows ++ pairRows
 
 -- A job of a size that is allowed has room for it.
-pub sizes-pass : (bytes : List ℕ) (job : ℕ) → ((wordsOf bytes job ≡ 0) ⊎ (4096 < wordsOf bytes job) → ⊥) → NoneOf (Fault (jobOf bytes job)) sizeRows
+pub sizes-pass : (bytes : List ℕ) (job : ℕ) → ((wordsOf bytes job ≡ 0) ⊎ (mostWords < wordsOf bytes job) → ⊥) → NoneOf (Fault (jobOf bytes job)) sizeRows
 sizes-pass bytes job allowed = (no-size, (no-room, tt))
   where
     size : length (tableOf bytes job) ≡ wordsOf bytes job
     size = length-rowIn 4 (wordsOf bytes job) (bodyIn bytes (entryOf job))
 
     no-size : (p : ℕ) → Fault (jobOf bytes job) SIZE p → ⊥
-    no-size p (size-fault x) = allowed (subst (λ (n : ℕ). (n ≡ 0) ⊎ (4096 < n)) size x)
+    no-size p (size-fault x) = allowed (subst (λ (n : ℕ). (n ≡ 0) ⊎ (mostWords < n)) size x)
 
     no-room : (p : ℕ) → Fault (jobOf bytes job) ROOM p → ⊥
     no-room p (room-fault x) = ⊎-elim (λ e. omega (arith, size)) (λ e. omega (arith, size)) x
@@ -86,18 +87,18 @@ module _ {bytes : List ℕ} {job : ℕ} {table list class work room : List ℕ} 
   list-size : length (listOf bytes job) ≡ 2 * pairsIn bytes (entryOf job)
   list-size = length-rowIn 2 (2 * pairsIn bytes (entryOf job)) (drop (4 * wordsOf bytes job) (bodyIn bytes (entryOf job)))
 
-  whole-list : 2 * pairsIn bytes (entryOf job) ≤ 514 → cutList ≡ listOf bytes job
+  whole-list : 2 * pairsIn bytes (entryOf job) ≤ listRoom → cutList ≡ listOf bytes job
   unfolding cutList
   whole-list h = take-all (length list) (listOf bytes job) (omega (arith, lent .cut, min-eq-left h, list-size))
 
-  over : 514 ≤ 2 * pairsIn bytes (entryOf job) → 512 < length cutList
+  over : listRoom ≤ 2 * pairsIn bytes (entryOf job) → mostEntries < length cutList
   unfolding cutList
   over h =
-      let all : length list ≡ 514 = lent .cut ∙ min-eq-right h in
+      let all : length list ≡ listRoom = lent .cut ∙ min-eq-right h in
       let e : length (take (length list) (listOf bytes job)) ≡ length list = length-take-le (length list) (listOf bytes job) (omega (arith, list-size)) in
       omega arith
 
-  too : 514 ≤ 2 * pairsIn bytes (entryOf job) → 512 < length (listOf bytes job)
+  too : listRoom ≤ 2 * pairsIn bytes (entryOf job) → mostEntries < length (listOf bytes job)
   too h = omega (arith, list-size)
 
   of-cut : (a p : ℕ) → Answered matchNumber (Fault (sent (tableOf bytes job) cutList (length class) (length work))) matchOrder a p
@@ -106,7 +107,7 @@ module _ {bytes : List ℕ} {job : ℕ} {table list class work room : List ℕ} 
       subst (λ (w : ℕ). Answered matchNumber (Fault (sent (tableOf bytes job) cutList (wordsOf bytes job) w)) matchOrder a p) (lent .works)
       (subst (λ (c : ℕ). Answered matchNumber (Fault (sent (tableOf bytes job) cutList c (length work))) matchOrder a p) (lent .classes) x)
 
-  of-whole : Dec (2 * pairsIn bytes (entryOf job) ≤ 514) → (a p : ℕ) → Answered matchNumber (Fault (sent (tableOf bytes job) cutList (wordsOf bytes job) (4 * wordsOf bytes job))) matchOrder a p
+  of-whole : Dec (2 * pairsIn bytes (entryOf job) ≤ listRoom) → (a p : ℕ) → Answered matchNumber (Fault (sent (tableOf bytes job) cutList (wordsOf bytes job) (4 * wordsOf bytes job))) matchOrder a p
       → Answered matchNumber (Fault (jobOf bytes job)) matchOrder a p
   of-whole (yes h) a p x =
       subst (λ (l : List ℕ). Answered matchNumber (Fault (sent (tableOf bytes job) l (wordsOf bytes job) (4 * wordsOf bytes job))) matchOrder a p) (whole-list h) x
@@ -114,7 +115,7 @@ module _ {bytes : List ℕ} {job : ℕ} {table list class work room : List ℕ} 
       long-lists (tableOf bytes job) cutList (listOf bytes job) (wordsOf bytes job) (4 * wordsOf bytes job) (over (omega arith)) (too (omega arith)) a p x
 
   -- an accepted list was not cut
-  accepted-whole : Dec (2 * pairsIn bytes (entryOf job) ≤ 514) → (p : ℕ) → Answered matchNumber (Fault (jobOf bytes job)) matchOrder 0 p → cutList ≡ listOf bytes job
+  accepted-whole : Dec (2 * pairsIn bytes (entryOf job) ≤ listRoom) → (p : ℕ) → Answered matchNumber (Fault (jobOf bytes job)) matchOrder 0 p → cutList ≡ listOf bytes job
   unfolding matchNumber
   accepted-whole (yes h) p x = whole-list h
   accepted-whole (no h) p x =
@@ -144,7 +145,7 @@ module _ {bytes : List ℕ} {job : ℕ} {table list class work room : List ℕ} 
   host-matched {answer} {class-after} {work-after} {after} {r} m e stored =
       let a : ℕ = numberOf answer in
       let p : ℕ = placeOf answer in
-      let d : Dec (2 * pairsIn bytes (entryOf job) ≤ 514) = decLe (2 * pairsIn bytes (entryOf job)) 514 in
+      let d : Dec (2 * pairsIn bytes (entryOf job) ≤ listRoom) = decLe (2 * pairsIn bytes (entryOf job)) listRoom in
       let answered : Answered matchNumber (Fault (jobOf bytes job)) matchOrder a p = of-whole d a p (of-cut a p (m .answered)) in
       let quiet : changesNothing a ≡ false = later-rows matchNumber (Fault (jobOf bytes job)) lateRows a p refl (late a p answered) in
       let written : not (writesNothing a) ≡ true =
@@ -202,7 +203,7 @@ lent-fronts {p = p} {entries} table list class work o (tables, lists, classes, w
             words = length-take-le _ table tables ∙ o .words;
             pairs = omega (arith, there, o .pairs);
           };
-      cut = long ∙ e ∙ ap (min (2 * p)) lists ∙ ap (λ (q : ℕ). min (2 * q) 514) (o .pairs);
+      cut = long ∙ e ∙ ap (min (2 * p)) lists ∙ ap (λ (q : ℕ). min (2 * q) listRoom) (o .pairs);
       classes = length-take-le _ class classes ∙ o .words;
       works = length-take-le _ work works ∙ ap (λ (m : ℕ). 4 * m) (o .words);
       some-word = omega (arith, o .some-word, o .words);

@@ -8,6 +8,7 @@ use Prim.Native.Nat.{ℕ, _+_, _-_, _*_, _<_}
 use lib.Dec.{eqb}
 use lib.ListN.{length, drop, replicate}
 use Rattle.rows.specs.LittleEndian.{bytesOf}
+use Rattle.words.specs.Limits.{mostWords}
 use Rattle.graphs.specs.Partition.{pairsOf, ClassTable, joins}
 use Rattle.table.specs.Table.{graphOf}
 use Rattle.answering.specs.Answers.{Answered}
@@ -59,7 +60,7 @@ pub data HostFault (bytes : List ℕ) (job : ℕ) (room : List ℕ) : Row → �
   -- "15 JOB if the number is not 1 to J"
   job-fault : (job ≡ 0) ⊎ (countIn bytes < job) → HostFault bytes job room JOB 0
   -- 1: "n is 0 or over 4,096"
-  size-fault : (wordsOf bytes job ≡ 0) ⊎ (4096 < wordsOf bytes job) → HostFault bytes job room SIZE 0
+  size-fault : (wordsOf bytes job ≡ 0) ⊎ (mostWords < wordsOf bytes job) → HostFault bytes job room SIZE 0
   -- "2 if room is under 6 + 2n"
   room-fault : length room < 6 + 2 * wordsOf bytes job → HostFault bytes job room ROOM 0
   -- 3 to 11 are the match's, of the job's own table and list

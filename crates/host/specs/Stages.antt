@@ -4,6 +4,7 @@ use mathlib.Core.Logic.{_⊎_}
 use mathlib.Core.List.{List}
 use Prim.Native.Nat.{ℕ, _+_, _-_, _*_, _≤_, _<_, min}
 use lib.ListN.{length, getD}
+use Rattle.words.specs.Limits.{mostWords}
 use Rattle.answering.specs.Answers.{Answered}
 use Rattle.jobfile.specs.File.{countIn, wordsIn, pairsIn, GoodFile}
 use Rattle.host.specs.Host.{entryOf, wordsOf, HostFault, number, earlyOrder}
@@ -14,9 +15,9 @@ use Rattle.host.specs.declared.choice.Chosen.the-variants.{Refused, Foun
 
 -- 1 and 2, by n and the length of the room
 pub data Sized (n p room : ℕ) : Chosen → Type 0 where
-  no-size : (n ≡ 0) ⊎ (4096 < n) → Sized n p room (Refused 1)
-  no-room : 1 ≤ n → n ≤ 4096 → room < 6 + 2 * n → Sized n p room (Refused 2)
-  fits : 1 ≤ n → n ≤ 4096 → p < 65536 → 6 + 2 * n ≤ room → Sized n p room (Found n p)
+  no-size : (n ≡ 0) ⊎ (mostWords < n) → Sized n p room (Refused 1)
+  no-room : 1 ≤ n → n ≤ mostWords → room < 6 + 2 * n → Sized n p room (Refused 2)
+  fits : 1 ≤ n → n ≤ mostWords → p < 65536 → 6 + 2 * n ≤ room → Sized n p room (Found n p)
 
 -- 15, then 1 and 2, by a row of sizes
 pub data Numbered (sizes : List ℕ) (jobs job room : ℕ) : Chosen → Type 0 where
@@ -39,7 +40,7 @@ pub record Open (bytes : List ℕ) (job n p room : ℕ) : Type 0 where
   pub pairs : p ≡ pairsIn bytes (entryOf job)
   pub few-pairs : p < 65536
   pub some-word : 1 ≤ n
-  pub few-words : n ≤ 4096
+  pub few-words : n ≤ mostWords
   pub enough : 6 + 2 * n ≤ room
 
 abbrev pub Choice : List ℕ → ℕ → List ℕ → Chosen → Type 0
@@ -48,10 +49,20 @@ Choice bytes job room (Found n p) = Open bytes job n p (length room)
 
 -- ---- the rows that are lent for it
 
--- rows with room in their fronts for a table of n words, its class entries and its work, and a row for its list. A list of
--- over 256 pairs is cut off at 514 entries, which is still over 512.
+-- Words of the tables that have small and middle rows.
+abbrev pub smallRow : ℕ
+smallRow = 64
+
+abbrev pub middleRow : ℕ
+middleRow = 512
+
+-- A list of over 256 pairs is cut off, with one pair too many.
+abbrev pub listRoom : ℕ
+listRoom = 514
+
+-- rows with room in their fronts for a table of n words, its class entries and its work, and a row for its list
 abbrev pub Roomy : ℕ → List ℕ → List ℕ → List ℕ → List ℕ → Type 0
-Roomy n table list class work = (n ≤ length table) × (length list ≡ 514) × (n ≤ length class) × (4 * n ≤ length work)
+Roomy n table list class work = (n ≤ length table) × (length list ≡ listRoom) × (n ≤ length class) × (4 * n ≤ length work)
 
 -- rows for the job's words, and for its addresses or the first of them
 pub record Copyable (bytes : List ℕ) (job : ℕ) (table list : List ℕ) : Type 0 where
@@ -64,9 +75,9 @@ pub record Copyable (bytes : List ℕ) (job : ℕ) (table list : List ℕ) : Typ
 -- the same for a match of it
 pub record Lent (bytes : List ℕ) (job : ℕ) (table list class work room : List ℕ) : Type 0 where
   pub copyable : Copyable bytes job table list
-  pub cut : length list ≡ min (2 * pairsIn bytes (entryOf job)) 514
+  pub cut : length list ≡ min (2 * pairsIn bytes (entryOf job)) listRoom
   pub classes : length class ≡ wordsOf bytes job
   pub works : length work ≡ 4 * wordsOf bytes job
   pub some-word : 1 ≤ wordsOf bytes job
-  pub few-words : wordsOf bytes job ≤ 4096
+  pub few-words : wordsOf bytes job ≤ mostWords
   pub enough : 6 + 2 * wordsOf bytes job ≤ length room

@@ -2,11 +2,10 @@
 ghost use mathlib.Core.Path.{_≡_};
 ghost use Prim.Native.Nat.{_*_, _≤_, _<_};
 ghost use lib.ListN.{length, getD};
+ghost use Rattle.words.specs.Limits.{mostSizes};
 ghost use Rattle.host.specs.Stages.{Sized, Numbered, Choice};
 use jobfile::answers;
-
-// A table has at most so many words.
-const MOST_WORDS: usize = 4096;
+use words::limits::MOST_WORDS;
 
 // A number that refuses the call, or n and p of the job.
 pub(crate) enum Chosen {
@@ -41,7 +40,7 @@ fn sized(n: usize, p: usize, room: usize) -> Chosen
 
 // By the job's number too, and the file's row of sizes.
 fn numbered(sizes: &[u16], jobs: usize, job: usize, room: usize) -> Chosen
-    requires { ⌜ (2 * jobs ≤ length (now sizes)) × (length (now sizes) ≤ 128) ⌝ }
+    requires { ⌜ (2 * jobs ≤ length (now sizes)) × (length (now sizes) ≤ mostSizes) ⌝ }
     ensures { λ r. ⌜ Numbered (now (sizes .entry)) jobs job room r ⌝ }
 {
     if job == 0 {

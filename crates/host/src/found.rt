@@ -3,9 +3,16 @@
 ghost use mathlib.Core.Path.{_≡_};
 ghost use Prim.Native.Nat.{_≤_, min};
 ghost use lib.ListN.{length};
+ghost use Rattle.words.specs.Limits.{mostWords};
 ghost use Rattle.host.specs.Host.{HostOf};
-ghost use Rattle.host.specs.Stages.{Open, Roomy};
+ghost use Rattle.host.specs.Stages.{listRoom, smallRow, middleRow, Open, Roomy};
 use crate::job;
+use words::limits::MOST_WORDS;
+
+// Words of a small and of a middle table.
+const SMALL: usize = 64;
+
+const MIDDLE: usize = 512;
 
 fn least(a: usize, b: usize) -> usize
     ensures { λ r. ⌜ (r ≡ min a b) × (r ≤ a) × (r ≤ b) ⌝ }
@@ -49,12 +56,12 @@ fn match_small(
     list: &mut [u16],
     room: &mut [u8],
 ) -> u16
-    requires { ⌜ Open (now file) job n p (length (now room)) × (length (now list) ≡ 514) × (n ≤ 64) ⌝ }
+    requires { ⌜ Open (now file) job n p (length (now room)) × (length (now list) ≡ listRoom) × (n ≤ smallRow) ⌝ }
     ensures { λ r. ⌜ HostOf (now (file .entry)) job (now (room .entry)) r (now (room .exit)) ⌝ }
 {
-    let mut table = [0u32; 64];
-    let mut class = [0u16; 64];
-    let mut work = [0u16; 256];
+    let mut table = [0u32; SMALL];
+    let mut class = [0u16; SMALL];
+    let mut work = [0u16; 4 * SMALL];
     match_in(
         file,
         job,
@@ -76,12 +83,12 @@ fn match_middle(
     list: &mut [u16],
     room: &mut [u8],
 ) -> u16
-    requires { ⌜ Open (now file) job n p (length (now room)) × (length (now list) ≡ 514) × (n ≤ 512) ⌝ }
+    requires { ⌜ Open (now file) job n p (length (now room)) × (length (now list) ≡ listRoom) × (n ≤ middleRow) ⌝ }
     ensures { λ r. ⌜ HostOf (now (file .entry)) job (now (room .entry)) r (now (room .exit)) ⌝ }
 {
-    let mut table = [0u32; 512];
-    let mut class = [0u16; 512];
-    let mut work = [0u16; 2048];
+    let mut table = [0u32; MIDDLE];
+    let mut class = [0u16; MIDDLE];
+    let mut work = [0u16; 4 * MIDDLE];
     match_in(
         file,
         job,
@@ -103,12 +110,12 @@ fn match_large(
     list: &mut [u16],
     room: &mut [u8],
 ) -> u16
-    requires { ⌜ Open (now file) job n p (length (now room)) × (length (now list) ≡ 514) × (n ≤ 4096) ⌝ }
+    requires { ⌜ Open (now file) job n p (length (now room)) × (length (now list) ≡ listRoom) × (n ≤ mostWords) ⌝ }
     ensures { λ r. ⌜ HostOf (now (file .entry)) job (now (room .entry)) r (now (room .exit)) ⌝ }
 {
-    let mut table = [0u32; 4096];
-    let mut class = [0u16; 4096];
-    let mut work = [0u16; 16384];
+    let mut table = [0u32; MOST_WORDS];
+    let mut class = [0u16; MOST_WORDS];
+    let mut work = [0u16; 4 * MOST_WORDS];
     match_in(
         file,
         job,
@@ -131,13 +138,13 @@ pub(crate) fn match_found(
     list: &mut [u16],
     room: &mut [u8],
 ) -> u16
-    requires { ⌜ Open (now file) job n p (length (now room)) × (length (now list) ≡ 514) ⌝ }
+    requires { ⌜ Open (now file) job n p (length (now room)) × (length (now list) ≡ listRoom) ⌝ }
     ensures { λ r. ⌜ HostOf (now (file .entry)) job (now (room .entry)) r (now (room .exit)) ⌝ }
 {
-    if n <= 64 {
+    if n <= SMALL {
         return match_small(file, job, n, p, list, room);
     }
-    if n <= 512 {
+    if n <= MIDDLE {
         return match_middle(file, job, n, p, list, room);
     }
     match_large(file, job, n, p, list, room)

@@ -18,6 +18,7 @@ use native.Mathlib.Omega.{arith}
 use lib.Dec.{eqb}
 use lib.ListN.{length}
 use borrow.Author.Count.{below-more}
+use Rattle.words.specs.Limits.{mostBytes, mostJobs}
 use Rattle.graphs.proofs.Classes.{never}
 use Rattle.answering.specs.Answers.{Lowest}
 use Rattle.answering.proofs.LowestLaws.{lowest-only}
@@ -106,20 +107,20 @@ module _ {bytes : List ℕ} {k start : ℕ} (walked : Walked bytes k start) wher
 -- ---- the whole
 
 module _ {bytes : List ℕ} where
-  pub judged-file : (length bytes < 2) ⊎ (32768 < length bytes) → Judged bytes File
+  pub judged-file : (length bytes < 2) ⊎ (mostBytes < length bytes) → Judged bytes File
   unfolding number
   judged-file why = inl (refl, file-fault why)
 
-  no-file : 2 ≤ length bytes → length bytes ≤ 32768 → (p : ℕ) → ReadFault bytes FILE p → ⊥
+  no-file : 2 ≤ length bytes → length bytes ≤ mostBytes → (p : ℕ) → ReadFault bytes FILE p → ⊥
   no-file least most p (file-fault (inl few)) = omega arith
   no-file least most p (file-fault (inr many)) = omega arith
 
-  no-contents : 1 ≤ countIn bytes → countIn bytes ≤ 64 → contentsEnd (countIn bytes) ≤ length bytes → (p : ℕ) → ReadFault bytes CONTENTS p → ⊥
+  no-contents : 1 ≤ countIn bytes → countIn bytes ≤ mostJobs → contentsEnd (countIn bytes) ≤ length bytes → (p : ℕ) → ReadFault bytes CONTENTS p → ⊥
   no-contents some-job few-jobs inside p (contents-fault (inl none-there)) = omega arith
   no-contents some-job few-jobs inside p (contents-fault (inr (inl many))) = omega arith
   no-contents some-job few-jobs inside p (contents-fault (inr (inr over))) = omega arith
 
-  pub judged-contents : 2 ≤ length bytes → length bytes ≤ 32768 → (countIn bytes ≡ 0) ⊎ ((64 < countIn bytes) ⊎ (length bytes < contentsEnd (countIn bytes))) → Judged bytes Contents
+  pub judged-contents : 2 ≤ length bytes → length bytes ≤ mostBytes → (countIn bytes ≡ 0) ⊎ ((mostJobs < countIn bytes) ⊎ (length bytes < contentsEnd (countIn bytes))) → Judged bytes Contents
   unfolding number
   judged-contents least most why = inr (no-file least most, inl (refl, contents-fault why))
 
@@ -232,18 +233,18 @@ module _ {bytes : List ℕ} {jobs : ℕ} (opened : Opened bytes jobs) (none-lowe
       last w (no end) = omega (arith, w .within)
 
 module _ {bytes : List ℕ} where
-  not-file : ((p : ℕ) → ReadFault bytes FILE p → ⊥) → (2 ≤ length bytes) × (length bytes ≤ 32768)
-  not-file none-applies = go (decLe 2 (length bytes)) (decLe (length bytes) 32768)
+  not-file : ((p : ℕ) → ReadFault bytes FILE p → ⊥) → (2 ≤ length bytes) × (length bytes ≤ mostBytes)
+  not-file none-applies = go (decLe 2 (length bytes)) (decLe (length bytes) mostBytes)
     where
-      go : Dec (2 ≤ length bytes) → Dec (length bytes ≤ 32768) → (2 ≤ length bytes) × (length bytes ≤ 32768)
+      go : Dec (2 ≤ length bytes) → Dec (length bytes ≤ mostBytes) → (2 ≤ length bytes) × (length bytes ≤ mostBytes)
       go (yes least) (yes most) = (least, most)
       go (yes least) (no most) = absurd (none-applies 0 (file-fault (inr (omega arith))))
       go (no least) d = absurd (none-applies 0 (file-fault (inl (omega arith))))
 
-  not-contents : (2 ≤ length bytes) × (length bytes ≤ 32768) → ((p : ℕ) → ReadFault bytes CONTENTS p → ⊥) → Opened bytes (countIn bytes)
-  not-contents sized none-applies = go (decLe 1 (countIn bytes)) (decLe (countIn bytes) 64) (decLe (contentsEnd (countIn bytes)) (length bytes))
+  not-contents : (2 ≤ length bytes) × (length bytes ≤ mostBytes) → ((p : ℕ) → ReadFault bytes CONTENTS p → ⊥) → Opened bytes (countIn bytes)
+  not-contents sized none-applies = go (decLe 1 (countIn bytes)) (decLe (countIn bytes) mostJobs) (decLe (contentsEnd (countIn bytes)) (length bytes))
     where
-      go : Dec (1 ≤ countIn bytes) → Dec (countIn bytes ≤ 64) → Dec (contentsEnd (countIn bytes) ≤ length bytes) → Opened bytes (countIn bytes)
+      go : Dec (1 ≤ countIn bytes) → Dec (countIn bytes ≤ mostJobs) → Dec (contentsEnd (countIn bytes) ≤ length bytes) → Opened bytes (countIn bytes)
       go (yes l) (yes m) (yes e) = record { counted = refl; at-least = sized .0; at-most = sized .1; some-job = l; few-jobs = m; contents-inside = e }
       go (yes l) (yes m) (no e) = absurd (none-applies 0 (contents-fault (inr (inr (omega arith)))))
       go (yes l) (no m) d = absurd (none-applies 0 (contents-fault (inr (inl (omega arith)))))

@@ -19,6 +19,7 @@ use lib.ListN.{length, take, drop, getD, replicate, length-replicate, length-app
 use lib.Seq.{take-at, length-take-le}
 use borrow.Author.Tests.{lt-ltb}
 use Rattle.rows.specs.LittleEndian.{AllBytes}
+use Rattle.words.specs.Limits.{mostSizes}
 use Rattle.graphs.specs.Partition.{pairsOf}
 use Rattle.jobfile.specs.Numbers.{rowIn}
 use Rattle.jobfile.specs.File.{bodySize, countIn, wordsIn, pairsIn, bodyStart, bodyIn, sizesIn, bodiesIn, GoodFile, fileOf}
@@ -49,7 +50,7 @@ reader-accepts-good {bytes} {answer} r =
 -- the sizes that count, of a row by value
 held : {sizes : Sizes} {xs : List ℕ} → Holds sizes xs → take (sizes .count) (sizes .row) ≡ xs
 unfolding inRow
-held {sizes} {xs} h = ap₂ (λ (n : ℕ) (l : List ℕ). take n l) (h .counted) (h .numbers) ∙ take-at xs (replicate (128 - length xs) 0) (length xs) refl
+held {sizes} {xs} h = ap₂ (λ (n : ℕ) (l : List ℕ). take n l) (h .counted) (h .numbers) ∙ take-at xs (replicate (mostSizes - length xs) 0) (length xs) refl
 
 pub read-sizes : {bytes : List ℕ} {answer : FileAnswer} {sizes : Sizes} → ReadOf bytes answer sizes → take (sizes .count) (sizes .row) ≡ yieldedSizes answer bytes
 read-sizes r = held (r .yielded)
@@ -163,16 +164,16 @@ job-body bytes k there d =
 -- ---- the sizes that count
 
 -- "at most 128 numbers"
-pub read-count : {bytes : List ℕ} {answer : FileAnswer} {sizes : Sizes} → ReadOf bytes answer sizes → sizes .count ≤ 128
+pub read-count : {bytes : List ℕ} {answer : FileAnswer} {sizes : Sizes} → ReadOf bytes answer sizes → sizes .count ≤ mostSizes
 read-count {bytes} {answer} {sizes} r = go answer (r .judged) (r .yielded .counted)
   where
-    go : (q : FileAnswer) → Judged bytes q → sizes .count ≡ length (yieldedSizes q bytes) → sizes .count ≤ 128
+    go : (q : FileAnswer) → Judged bytes q → sizes .count ≡ length (yieldedSizes q bytes) → sizes .count ≤ mostSizes
     go Good judged e = omega (arith, length-sizesFrom (countIn bytes) 0 bytes, judged-good judged .few-jobs)
     go File judged e = omega arith
     go Contents judged e = omega arith
     go (Body entry) judged e = omega arith
 
-pub read-length : {bytes : List ℕ} {answer : FileAnswer} {sizes : Sizes} → ReadOf bytes answer sizes → length (sizes .row) ≡ 128
+pub read-length : {bytes : List ℕ} {answer : FileAnswer} {sizes : Sizes} → ReadOf bytes answer sizes → length (sizes .row) ≡ mostSizes
 unfolding inRow
 read-length {bytes} {answer} r =
     let xs : List ℕ = yieldedSizes answer bytes in
@@ -181,6 +182,6 @@ read-length {bytes} {answer} r =
       read-count r,
       r .yielded .counted,
       ap length (r .yielded .numbers),
-      length-append xs (replicate (128 - length xs) 0),
-      length-replicate {A = ℕ} (128 - length xs) 0,
+      length-append xs (replicate (mostSizes - length xs) 0),
+      length-replicate {A = ℕ} (mostSizes - length xs) 0,
     )

@@ -13,6 +13,7 @@ use lib.ListN.{length, take, drop}
 use lib.Seq.{take-at}
 use Rattle.rows.specs.Placed.{placed}
 use Rattle.rows.proofs.Laws.{behind-stays}
+use Rattle.words.specs.Limits.{mostBytes, mostJobs}
 use Rattle.answering.proofs.Orders.{answered-only, passed-none}
 use Rattle.jobfile.specs.File.{contentsEnd, jobCount, bodiesSize, fileOf}
 use Rattle.jobfile.specs.Faults.{Row, CONTENTS, BODY, FILE, ROOM, number, WriteFault, contents-refused, body-refused, file-refused, room-refused, writeOrder}
@@ -27,7 +28,7 @@ use Rattle.jobfile.proofs.Written.{Writable}
 pub record Allowed (sizes : List ℕ) : Type 0 where
   pub even : length sizes % 2 ≡ 0
   pub some-job : 0 < jobCount sizes
-  pub few-jobs : jobCount sizes ≤ 64
+  pub few-jobs : jobCount sizes ≤ mostJobs
 
 module _ (sizes bodies room : List ℕ) where
   no-contents : Allowed sizes → (p : ℕ) → WriteFault sizes bodies room CONTENTS p → ⊥
@@ -38,13 +39,13 @@ module _ (sizes bodies room : List ℕ) where
   no-body : length bodies ≡ bodiesSize sizes → (p : ℕ) → WriteFault sizes bodies room BODY p → ⊥
   no-body e p (body-refused other) = other e
 
-  no-file : length (fileOf sizes bodies) ≤ 32768 → (p : ℕ) → WriteFault sizes bodies room FILE p → ⊥
+  no-file : length (fileOf sizes bodies) ≤ mostBytes → (p : ℕ) → WriteFault sizes bodies room FILE p → ⊥
   no-file h p (file-refused over) = omega arith
 
   no-room : length (fileOf sizes bodies) ≤ length room → (p : ℕ) → WriteFault sizes bodies room ROOM p → ⊥
   no-room h p (room-refused short) = omega arith
 
-  pub write-contents : (length sizes % 2 ≡ 1) ⊎ ((jobCount sizes ≡ 0) ⊎ (64 < jobCount sizes)) → WriteOf sizes bodies room Contents room
+  pub write-contents : (length sizes % 2 ≡ 1) ⊎ ((jobCount sizes ≡ 0) ⊎ (mostJobs < jobCount sizes)) → WriteOf sizes bodies room Contents room
   unfolding number left
   write-contents why = record { answered = inl (refl, contents-refused why); room-left = refl }
 
@@ -56,11 +57,11 @@ module _ (sizes bodies room : List ℕ) where
     file-size : length (fileOf sizes bodies) ≡ contentsEnd (jobCount sizes) + length bodies
     file-size = length-fileOf sizes bodies (ok .even)
 
-    pub write-file : 32768 < contentsEnd (jobCount sizes) + length bodies → WriteOf sizes bodies room File room
+    pub write-file : mostBytes < contentsEnd (jobCount sizes) + length bodies → WriteOf sizes bodies room File room
     unfolding number left
     write-file over = record { answered = inr (no-contents ok, inr (no-body sum, inl (refl, file-refused (omega (arith, file-size))))); room-left = refl }
 
-    module _ (within : contentsEnd (jobCount sizes) + length bodies ≤ 32768) where
+    module _ (within : contentsEnd (jobCount sizes) + length bodies ≤ mostBytes) where
       pub write-room : length room < contentsEnd (jobCount sizes) + length bodies → WriteOf sizes bodies room Room room
       unfolding number left
       write-room short =
@@ -100,19 +101,19 @@ unfolding number
 written-writable {sizes} {bodies} {room} w =
     let rows = passed-none number (WriteFault sizes bodies room) writeOrder 0 0 refl refl (w .answered) .0 in
     put
-    (allowed (ℕ-discrete (length sizes % 2) 1) (decLe 1 (jobCount sizes)) (decLe (jobCount sizes) 64) (rows .0))
+    (allowed (ℕ-discrete (length sizes % 2) 1) (decLe 1 (jobCount sizes)) (decLe (jobCount sizes) mostJobs) (rows .0))
     (ℕ-discrete (length bodies) (bodiesSize sizes))
-    (decLe (length (fileOf sizes bodies)) 32768)
+    (decLe (length (fileOf sizes bodies)) mostBytes)
     (rows .1 .0)
     (rows .1 .1 .0)
   where
-    put : Allowed sizes → Dec (length bodies ≡ bodiesSize sizes) → Dec (length (fileOf sizes bodies) ≤ 32768)
+    put : Allowed sizes → Dec (length bodies ≡ bodiesSize sizes) → Dec (length (fileOf sizes bodies) ≤ mostBytes)
         → ((p : ℕ) → WriteFault sizes bodies room BODY p → ⊥) → ((p : ℕ) → WriteFault sizes bodies room FILE p → ⊥) → Writable sizes bodies
     put ok (yes e) (yes h) b f = record { even = ok .even; some-job = ok .some-job; few-jobs = ok .few-jobs; sum = e; short = h }
     put ok (yes e) (no h) b f = absurd (f 0 (file-refused (omega arith)))
     put ok (no other) d b f = absurd (b 0 (body-refused other))
 
-    allowed : Dec (length sizes % 2 ≡ 1) → Dec (1 ≤ jobCount sizes) → Dec (jobCount sizes ≤ 64) → ((p : ℕ) → WriteFault sizes bodies room CONTENTS p → ⊥) → Allowed sizes
+    allowed : Dec (length sizes % 2 ≡ 1) → Dec (1 ≤ jobCount sizes) → Dec (jobCount sizes ≤ mostJobs) → ((p : ℕ) → WriteFault sizes bodies room CONTENTS p → ⊥) → Allowed sizes
     allowed (no even) (yes l) (yes m) c = record { even = omega arith; some-job = l; few-jobs = m }
     allowed (no even) (yes l) (no m) c = absurd (c 0 (contents-refused (inr (inr (omega arith)))))
     allowed (no even) (no l) d c = absurd (c 0 (contents-refused (inr (inl (omega arith)))))

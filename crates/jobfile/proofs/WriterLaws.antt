@@ -13,6 +13,7 @@ use lib.Seq.{drop-cons, take-at, drop-at, take-add, drop-drop, length-take-le}
 use Rattle.rows.specs.LittleEndian.{bytesOf}
 use Rattle.rows.specs.Placed.{placed}
 use Rattle.rows.proofs.Laws.{length-bytesOf, length-placed, behind-stays, Built, built-none, built-all}
+use Rattle.words.specs.Limits.{mostBytes}
 use Rattle.jobfile.specs.File.{bodySize, contentsEnd, jobCount, bodiesSize, contentsOf}
 use Rattle.jobfile.specs.Writer.{frontOf, Fitted}
 use Rattle.jobfile.proofs.NumberLaws.{to-the-end}
@@ -128,7 +129,7 @@ pub record Writing (sizes file₀ : List ℕ) (k start : ℕ) (file : List ℕ) 
   pub even : length sizes ≡ 2 * jobCount sizes
   pub built : Built (frontOf sizes) file₀ (contentsEnd (jobCount sizes)) (2 + 6 * k) file
   pub rest : drop (2 + 6 * k) (frontOf sizes) ≡ contentsOf start (drop (2 * k) sizes)
-  pub small : start + bodiesSize (drop (2 * k) sizes) ≤ 32768
+  pub small : start + bodiesSize (drop (2 * k) sizes) ≤ mostBytes
 
 pub length-frontOf : (sizes : List ℕ) → length sizes ≡ 2 * jobCount sizes → length (frontOf sizes) ≡ contentsEnd (jobCount sizes)
 length-frontOf sizes even = simp (length-append, length-bytesOf) (omega (arith, length-contentsOf (jobCount sizes) (contentsEnd (jobCount sizes)) sizes even))

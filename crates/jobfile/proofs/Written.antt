@@ -9,6 +9,7 @@ use Prim.Native.Nat.{ℕ, _+_, _*_, _%_, _≤_}
 use native.Mathlib.Omega.{arith}
 use lib.ListN.{length, drop, length-drop}
 use Rattle.rows.specs.LittleEndian.{bytesOf, AllBytes}
+use Rattle.words.specs.Limits.{mostBytes, mostJobs}
 use Rattle.jobfile.specs.File.{contentsEnd, countIn, bodyStart, sizesFrom, sizesIn, bodiesIn, GoodFile, jobCount, bodiesSize, contentsOf, fileOf}
 use Rattle.jobfile.proofs.NumberLaws.{number-there, rest-there, bytes-there}
 use Rattle.jobfile.proofs.FileLaws.{length-sizesFrom, sizes-end, length-fileOf, ReadBack, read-back, contents-again}
@@ -17,9 +18,9 @@ use Rattle.jobfile.proofs.FileLaws.{length-sizesFrom, sizes-end, length
 pub record Writable (sizes bodies : List ℕ) : Type 0 where
   pub even : length sizes % 2 ≡ 0
   pub some-job : 1 ≤ jobCount sizes
-  pub few-jobs : jobCount sizes ≤ 64
+  pub few-jobs : jobCount sizes ≤ mostJobs
   pub sum : length bodies ≡ bodiesSize sizes
-  pub short : length (fileOf sizes bodies) ≤ 32768
+  pub short : length (fileOf sizes bodies) ≤ mostBytes
 
 -- ---- written, then read
 

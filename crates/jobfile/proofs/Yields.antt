@@ -11,6 +11,7 @@ use native.Mathlib.Omega.{arith}
 use lib.ListN.{length, take, drop, replicate, length-replicate, replicate-append-replicate}
 use lib.Seq.{drop-at}
 use borrow.Author.Tests.{lt-ltb, le-ltb}
+use Rattle.words.specs.Limits.{mostJobs, mostSizes}
 use Rattle.graphs.proofs.Classes.{never}
 use Rattle.jobfile.specs.File.{bodySize, contentsEnd, countIn, offsetIn, wordsIn, pairsIn, bodyStart, bodyIn, sizesIn, GoodFile}
 use Rattle.jobfile.specs.Reader.{Judged, numberedBody, yieldedSizes, yieldedBodies, yieldedBody, inRow, Holds, BodiesOf, BodyOf, passes}
@@ -37,23 +38,23 @@ drop-zeros k n h =
     ∙ ap (drop k) (sym (replicate-append-replicate k (n - k) 0))
     ∙ drop-at {A = ℕ} (replicate k 0) (replicate (n - k) 0) k (length-replicate k 0)
 
-pub yield-sizes : (bytes : List ℕ) (r : FileAnswer) {sizes : Sizes} → passes r ≡ true → countIn bytes ≤ 64
-    → sizes .row ≡ sizesIn bytes ++ drop (sizes .count) (replicate 128 0) → sizes .count ≡ 2 * countIn bytes → Holds sizes (yieldedSizes r bytes)
+pub yield-sizes : (bytes : List ℕ) (r : FileAnswer) {sizes : Sizes} → passes r ≡ true → countIn bytes ≤ mostJobs
+    → sizes .row ≡ sizesIn bytes ++ drop (sizes .count) (replicate mostSizes 0) → sizes .count ≡ 2 * countIn bytes → Holds sizes (yieldedSizes r bytes)
 unfolding inRow
 yield-sizes bytes r {sizes} p few row count =
     let size : sizes .count ≡ length (sizesIn bytes) = count ∙ sym (length-sizesFrom (countIn bytes) 0 bytes) in
     let same : yieldedSizes r bytes ≡ sizesIn bytes = by-answer (λ q. yieldedSizes q bytes) r p in
-    let small : length (sizesIn bytes) ≤ 128 = omega arith in
+    let small : length (sizesIn bytes) ≤ mostSizes = omega arith in
     record {
       numbers =
           row
-          ∙ ap (λ (k : ℕ). sizesIn bytes ++ drop k (replicate 128 0)) size
-          ∙ ap (λ (l : List ℕ). sizesIn bytes ++ l) (drop-zeros (length (sizesIn bytes)) 128 small)
+          ∙ ap (λ (k : ℕ). sizesIn bytes ++ drop k (replicate mostSizes 0)) size
+          ∙ ap (λ (l : List ℕ). sizesIn bytes ++ l) (drop-zeros (length (sizesIn bytes)) mostSizes small)
           ∙ ap inRow (sym same);
       counted = size ∙ ap length (sym same);
     }
 
-pub yield-no-sizes : (bytes : List ℕ) (r : FileAnswer) {sizes : Sizes} → passes r ≡ false → sizes .row ≡ replicate 128 0 → sizes .count ≡ 0 → Holds sizes (yieldedSizes r bytes)
+pub yield-no-sizes : (bytes : List ℕ) (r : FileAnswer) {sizes : Sizes} → passes r ≡ false → sizes .row ≡ replicate mostSizes 0 → sizes .count ≡ 0 → Holds sizes (yieldedSizes r bytes)
 unfolding inRow
 yield-no-sizes bytes Good p row count = never (cc)
 yield-no-sizes bytes File p row count = record { numbers = row; counted = count }

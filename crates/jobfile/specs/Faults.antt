@@ -5,6 +5,7 @@ use mathlib.Core.Logic.{_⊎_}
 use mathlib.Core.List.{List, [], _∷_}
 use Prim.Native.Nat.{ℕ, suc, _+_, _%_, _<_}
 use lib.ListN.{length}
+use Rattle.words.specs.Limits.{mostBytes, mostJobs}
 use Rattle.answering.specs.Answers.{Lowest}
 use Rattle.jobfile.specs.File.{contentsEnd, countIn, offsetIn, bodyStart, jobCount, bodiesSize, fileOf}
 
@@ -31,9 +32,9 @@ pub data BodyFault (bytes : List ℕ) : ℕ → Type 0 where
 -- A row applies to a file, at a place.
 pub data ReadFault (bytes : List ℕ) : Row → ℕ → Type 0 where
   -- "under 2 bytes or over 32,768, place 0"
-  file-fault : (length bytes < 2) ⊎ (32768 < length bytes) → ReadFault bytes FILE 0
+  file-fault : (length bytes < 2) ⊎ (mostBytes < length bytes) → ReadFault bytes FILE 0
   -- "J is 0 or over 64, or the contents pass the end, place 0"
-  contents-fault : (countIn bytes ≡ 0) ⊎ ((64 < countIn bytes) ⊎ (length bytes < contentsEnd (countIn bytes))) → ReadFault bytes CONTENTS 0
+  contents-fault : (countIn bytes ≡ 0) ⊎ ((mostJobs < countIn bytes) ⊎ (length bytes < contentsEnd (countIn bytes))) → ReadFault bytes CONTENTS 0
   -- "The lowest number wins, then the lowest place."
   body-fault : {p : ℕ} → Lowest (BodyFault bytes) p → ReadFault bytes BODY p
 
@@ -45,11 +46,11 @@ readOrder = FILE ∷ CONTENTS ∷ BODY ∷ []
 -- A row applies to what the writer takes: "the sizes (n, p, n, p, ..), the bodies' bytes end to end, and room"; "place is 0".
 pub data WriteFault (sizes bodies room : List ℕ) : Row → ℕ → Type 0 where
   -- "13 for an odd row of sizes or J not 1 to 64"
-  contents-refused : (length sizes % 2 ≡ 1) ⊎ ((jobCount sizes ≡ 0) ⊎ (64 < jobCount sizes)) → WriteFault sizes bodies room CONTENTS 0
+  contents-refused : (length sizes % 2 ≡ 1) ⊎ ((jobCount sizes ≡ 0) ⊎ (mostJobs < jobCount sizes)) → WriteFault sizes bodies room CONTENTS 0
   -- "14 if the bodies' length is not the sum"
   body-refused : (length bodies ≡ bodiesSize sizes → ⊥) → WriteFault sizes bodies room BODY 0
   -- "12 if the file passes 32,768"
-  file-refused : 32768 < length (fileOf sizes bodies) → WriteFault sizes bodies room FILE 0
+  file-refused : mostBytes < length (fileOf sizes bodies) → WriteFault sizes bodies room FILE 0
   -- "2 if room is short"
   room-refused : length room < length (fileOf sizes bodies) → WriteFault sizes bodies room ROOM 0
 

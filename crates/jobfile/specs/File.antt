@@ -5,6 +5,7 @@ use mathlib.Core.List.{List, [], _∷_, _++_}
 use Prim.Native.Nat.{ℕ, zero, suc, _+_, _*_, _/_, _≤_, _<_}
 use lib.ListN.{length, take, drop}
 use Rattle.rows.specs.LittleEndian.{bytesOf, numberAt}
+use Rattle.words.specs.Limits.{mostBytes, mostJobs}
 
 -- "A body is n words and p pairs, 4 bytes each."
 abbrev pub bodySize : ℕ → ℕ → ℕ
@@ -56,9 +57,9 @@ bodiesIn bytes = drop (contentsEnd (countIn bytes)) bytes
 -- "Contents first, then bodies .. and the file ends with the last." The bounds are those of the refusals 12 and 13.
 pub record GoodFile (bytes : List ℕ) : Type 0 where
   pub at-least : 2 ≤ length bytes
-  pub at-most : length bytes ≤ 32768
+  pub at-most : length bytes ≤ mostBytes
   pub some-job : 1 ≤ countIn bytes
-  pub few-jobs : countIn bytes ≤ 64
+  pub few-jobs : countIn bytes ≤ mostJobs
   pub contents-inside : contentsEnd (countIn bytes) ≤ length bytes
   pub offsets : (k : ℕ) → k < countIn bytes → offsetIn bytes k ≡ bodyStart bytes k
   pub ends : bodyStart bytes (countIn bytes) ≡ length bytes

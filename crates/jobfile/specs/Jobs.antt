@@ -3,6 +3,7 @@
 use mathlib.Core.List.{List, [], _∷_, _++_}
 use Prim.Native.Nat.{ℕ, _*_, _^_, _≤_}
 use lib.ListN.{length, drop}
+use Rattle.words.specs.Limits.{mostBytes, mostJobs}
 use Rattle.graphs.specs.Partition.{Pair, pairsOf}
 use Rattle.jobfile.specs.Numbers.{bytesOfRow, rowIn, AllBelow}
 use Rattle.jobfile.specs.File.{bodySize, sizesIn, bodiesIn, fileOf}
@@ -42,8 +43,8 @@ AllFit (job ∷ jobs) = AllBelow (256 ^ 4) (job .words) × AllBelow (256 ^ 2) (e
 -- Jobs that a file can hold: 1 to 64, in a file of at most 32,768 bytes.
 pub record Holdable (jobs : List FileJob) : Type 0 where
   pub some-job : 1 ≤ length jobs
-  pub few-jobs : length jobs ≤ 64
-  pub short : length (fileOfJobs jobs) ≤ 32768
+  pub few-jobs : length jobs ≤ mostJobs
+  pub short : length (fileOfJobs jobs) ≤ mostBytes
   pub numbers-fit : AllFit jobs
 
 -- ---- the jobs in a file

@@ -5,6 +5,7 @@ use mathlib.Core.List.{List, [], _∷_, _++_}
 use Prim.Native.Nat.{ℕ, zero, suc, _-_, _≤_}
 use lib.Dec.{ltb}
 use lib.ListN.{length, replicate}
+use Rattle.words.specs.Limits.{mostBytes, mostJobs, mostSizes}
 use Rattle.answering.specs.Answers.{Answered}
 use Rattle.jobfile.specs.File.{contentsEnd, countIn, bodyIn, sizesIn, bodiesIn}
 use Rattle.jobfile.specs.Faults.{BODY, number, ReadFault, readOrder}
@@ -59,7 +60,7 @@ yieldedBody (Body entry) bytes job = []
 
 -- "by value, at most 128 numbers, unused places 0"
 unfoldable pub inRow : List ℕ → List ℕ
-inRow xs = xs ++ replicate (128 - length xs) 0
+inRow xs = xs ++ replicate (mostSizes - length xs) 0
 
 -- a row of sizes by value holds these sizes
 pub record Holds (sizes : Sizes) (xs : List ℕ) : Type 0 where
@@ -95,9 +96,9 @@ passes (Body entry) = false
 pub record Opened (bytes : List ℕ) (jobs : ℕ) : Type 0 where
   pub counted : jobs ≡ countIn bytes
   pub at-least : 2 ≤ length bytes
-  pub at-most : length bytes ≤ 32768
+  pub at-most : length bytes ≤ mostBytes
   pub some-job : 1 ≤ countIn bytes
-  pub few-jobs : countIn bytes ≤ 64
+  pub few-jobs : countIn bytes ≤ mostJobs
   pub contents-inside : contentsEnd (countIn bytes) ≤ length bytes
 
 -- the answer by the row 14 alone

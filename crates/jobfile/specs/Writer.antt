@@ -5,6 +5,7 @@ use mathlib.Core.List.{List, _++_}
 use Prim.Native.Nat.{ℕ, _+_, _*_, _≤_}
 use lib.ListN.{length, drop}
 use Rattle.rows.specs.LittleEndian.{bytesOf}
+use Rattle.words.specs.Limits.{mostBytes}
 use Rattle.answering.specs.Answers.{Answered}
 use Rattle.jobfile.specs.File.{contentsEnd, jobCount, bodiesSize, contentsOf, fileOf}
 use Rattle.jobfile.specs.Faults.{number, WriteFault, writeOrder}
@@ -43,5 +44,5 @@ frontOf sizes = bytesOf 2 (jobCount sizes) ++ contentsOf (contentsEnd (jobCount 
 -- sizes of so many jobs, whose file is short enough, and room for its contents
 pub record Fitted (sizes room : List ℕ) : Type 0 where
   pub even : length sizes ≡ 2 * jobCount sizes
-  pub short : contentsEnd (jobCount sizes) + bodiesSize sizes ≤ 32768
+  pub short : contentsEnd (jobCount sizes) + bodiesSize sizes ≤ mostBytes
   pub enough : contentsEnd (jobCount sizes) ≤ length room

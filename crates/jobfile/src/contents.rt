@@ -8,12 +8,8 @@ ghost use Rattle.jobfile.specs.File.{bodySize, wordsIn, pairsIn};
 ghost use Rattle.jobfile.specs.Reader.{Opened, BodiesJudged, Judged};
 use crate::answers::EntryNumber;
 use crate::answers::FileAnswer;
-
-// A file has at most so many bytes.
-pub(crate) const MOST_BYTES: usize = 32768;
-
-// A file has at most so many jobs.
-const MOST_JOBS: usize = 64;
+use words::limits::MOST_BYTES;
+use words::limits::MOST_JOBS;
 
 // The number of 16 bits at a place, wide enough to compute with. That it is below 65,536 is said too, so that no caller has
 // to show it.

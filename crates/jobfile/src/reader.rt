@@ -10,6 +10,7 @@ use crate::answers;
 use crate::answers::FileAnswer;
 use crate::contents;
 use crate::sizes::Sizes;
+use words::limits::MOST_SIZES;
 
 // What the reader yields beside the part of the file that the bodies are.
 pub struct FileRead {
@@ -42,7 +43,7 @@ fn sizes_of(file: &[u8], answer: FileAnswer) -> Sizes
     requires { ⌜ Judged (now file) answer ⌝ }
     ensures { λ r. ⌜ Holds r (yieldedSizes answer (now (file .entry))) ⌝ }
 {
-    let mut row = [0u16; 128];
+    let mut row = [0u16; MOST_SIZES];
     if answers::is_good(answer) {
         let count = 2 * contents::number(file, 0);
         put_sizes(file, count, &mut row);

@@ -6,13 +6,12 @@ ghost use Prim.Native.Nat.{_+_, _≤_, _<_};
 ghost use lib.ListN.{length, getD, drop};
 ghost use Rattle.rows.specs.LittleEndian.{bytesOf};
 ghost use Rattle.rows.specs.Placed.{placed};
+ghost use Rattle.words.specs.Limits.{mostSizes};
 ghost use Rattle.jobfile.specs.File.{bodiesSize};
 ghost use Rattle.jobfile.specs.Writer.{WriteOf, Fitted, frontOf};
 use crate::answers::WriteAnswer;
-use crate::contents::MOST_BYTES;
-
-// A row of sizes has at most so many numbers, for 64 jobs.
-const MOST_SIZES: usize = 128;
+use words::limits::MOST_BYTES;
+use words::limits::MOST_SIZES;
 
 // A size, wide enough to compute with. That it is below 65,536 is said too, so that no caller has to show it.
 fn size(sizes: &[u16], i: usize) -> usize
@@ -24,7 +23,7 @@ fn size(sizes: &[u16], i: usize) -> usize
 
 // How many bytes the bodies of these sizes have.
 fn bodies_size(sizes: &[u16]) -> usize
-    requires { ⌜ length (now sizes) ≤ 128 ⌝ }
+    requires { ⌜ length (now sizes) ≤ mostSizes ⌝ }
     ensures { λ r. ⌜ r ≡ bodiesSize (now (sizes .entry)) ⌝ }
 {
     let mut sum = 0;

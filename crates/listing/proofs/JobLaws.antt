@@ -12,6 +12,7 @@ use native.Mathlib.Numerals.{add-one}
 use native.Mathlib.Omega.{arith}
 use lib.ListN.{length, take, drop, getD, length-append}
 use lib.Seq.{take-all, length-take-le}
+use Rattle.words.specs.Limits.{mostWords, mostBytes}
 use Rattle.answering.proofs.Orders.{passed-none, none-parts}
 use Rattle.table.specs.Faults.{Job, Fault, number, checkOrder, listRows, pairRows, matchOrder}
 use Rattle.matcher.specs.Match.{numberOf, placeOf, jobOf, MatchOf}
@@ -74,7 +75,7 @@ job-matched {file} {table} {list} {class} {work} {class-after} {work-after} {k} 
 -- a file has at most 32,768 bytes
 pub job-room : {file : List ℕ} {k : ℕ} → Entered file k → (wordsIn file k ≤ 8192) × (2 * pairsIn file k ≤ 16384)
 job-room {file} {k} (good, there) =
-    let fits : 4 * wordsIn file k + 4 * pairsIn file k ≤ 32768 =
+    let fits : 4 * wordsIn file k + 4 * pairsIn file k ≤ mostBytes =
     omega (arith, next-start file k {start = bodyStart file k} {n = wordsIn file k} {p = pairsIn file k} refl refl refl, body-inside good k there, good .at-most) in
     (omega arith, omega arith)
 
@@ -99,7 +100,7 @@ good-listed {answer = answer} read e =
 
 -- a table that is accepted has room in the class row
 pub accepted-room : {file class work table list class-after work-after : List ℕ} {k : ℕ} {answer : Matched} → JobMatched file k class work answer table list class-after work-after → numberOf answer ≡ 0
-    → (length table ≤ 4096) × (length table ≤ length class)
+    → (length table ≤ mostWords) × (length table ≤ length class)
 unfolding number
 accepted-room {file} {class} {work} {k = k} {answer} m z =
     let job : Job = jobOf (jobAt file k .words) (entriesOf (jobAt file k .pairs)) class work in
@@ -113,8 +114,8 @@ module _ {file class work front list class-after work-after : List ℕ} {k : ℕ
   pub front-inside : n ≤ length (front ++ drop n row)
   front-inside = omega (arith, length-append front (drop n row), length-take-le n row inside)
 
-  pub front-fits : numberOf answer ≡ 0 → length class ≡ 4096 → length class-after ≡ length class
-      → (length (take n (front ++ drop n row)) ≤ length class-after) × (length (take n (front ++ drop n row)) ≤ 4096)
+  pub front-fits : numberOf answer ≡ 0 → length class ≡ mostWords → length class-after ≡ length class
+      → (length (take n (front ++ drop n row)) ≤ length class-after) × (length (take n (front ++ drop n row)) ≤ mostWords)
   front-fits z room kept =
       let r = accepted-room m z in
       let long : length (take n (front ++ drop n row)) ≡ length front = length-take-le n (front ++ drop n row) front-inside ∙ sym (same ∙ length-take-le n row inside) in

@@ -10,6 +10,7 @@ mod variables;
 ghost use Prim.Native.Nat.{_≤_};
 ghost use mathlib.Core.Path.{_≡_};
 ghost use lib.ListN.{length};
+ghost use Rattle.words.specs.Limits.{mostWords};
 ghost use Rattle.jobfile.specs.File.{GoodFile, wordsIn, pairsIn, sizesIn};
 ghost use Rattle.listing.specs.Listing.{Entered};
 use jobfile::answers;
@@ -19,6 +20,7 @@ use libc::STDOUT_FILENO;
 use matcher::answer;
 use matcher::answer::Matched;
 use variables::Entry;
+use words::limits::MOST_WORDS;
 use words::numbers::Address;
 use words::numbers::Label;
 
@@ -66,7 +68,7 @@ fn print_entry(x: u16, entry: Entry) {
 
 // A line for each variable, in address order.
 fn print_variables(table: &[u32], class: &[u16])
-    requires { ⌜ (length (now table) ≤ length (now class)) × (length (now table) ≤ 4096) ⌝ }
+    requires { ⌜ (length (now table) ≤ length (now class)) × (length (now table) ≤ mostWords) ⌝ }
 {
     let mut x = 0;
     while x < table.len() {
@@ -81,7 +83,7 @@ fn print_entered(file: &[u8], k: usize, n: usize, p: usize)
 {
     let mut table = [0u32; 8192];
     let mut list = [0u16; 16384];
-    let mut class = [0u16; 4096];
+    let mut class = [0u16; MOST_WORDS];
     let mut work = [0u16; 16384];
     let entries = 2 * p;
     let answer = job::match_job(

@@ -10,6 +10,7 @@ use Prim.Native.Nat.{ℕ, _*_, _≤_, _<_}
 use native.Mathlib.Omega.{arith}
 use lib.ListN.{length, getD, take}
 use lib.Seq.{getD-take}
+use Rattle.words.specs.Limits.{mostWords}
 use Rattle.graphs.specs.Graph.{symbol, Node, symbol-node, Child, Steps, one, more, WellFormed}
 use Rattle.graphs.specs.Partition.{Pair, Sides, Same, itself, placed, Clash, ClassStep, entry, ClassTable}
 use Rattle.graphs.proofs.Finite.{steps-map}
@@ -44,7 +45,7 @@ module _ {t : List ℕ} (class : List ℕ) {pairs : List Pair} (shaped : Shaped 
 
   -- ---- the search's demands
 
-  pub class-searchable : length t ≤ 4096 → (work-room : ℕ) → 2 * length t ≤ work-room → Searchable t class work-room
+  pub class-searchable : length t ≤ mostWords → (work-room : ℕ) → 2 * length t ≤ work-room → Searchable t class work-room
   class-searchable small work-room enough =
       record {
         small = small;

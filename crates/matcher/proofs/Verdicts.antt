@@ -12,6 +12,7 @@ use native.Mathlib.Decide.{decLt}
 use native.Mathlib.Omega.{arith}
 use lib.ListN.{length, take}
 use lib.Seq.{take-all}
+use Rattle.words.specs.Limits.{mostEntries}
 use Rattle.answering.specs.declared.fault.TableFault.{TableFault}
 use Rattle.answering.specs.Answers.{First, Answered, NoneOf}
 use Rattle.answering.specs.TableFaults.{numberOf as faultNumber, placeOf as faultPlace}
@@ -57,11 +58,11 @@ module _ {t class work : List ℕ} (list : List ℕ) {class-after work-after : L
 -- ---- the list
 
 module _ {job : Job} where
-  pub list-answered : NoneOf (Fault job) checkOrder → (odd (job .list) ≡ true) ⊎ (512 < length (job .list)) → Answered number (Fault job) matchOrder 8 0
+  pub list-answered : NoneOf (Fault job) checkOrder → (odd (job .list) ≡ true) ⊎ (mostEntries < length (job .list)) → Answered number (Fault job) matchOrder 8 0
   unfolding number
   list-answered clear h = none-first number (Fault job) checkOrder (listRows ++ pairRows) 8 0 clear (inl (refl, list-fault h))
 
-  pub list-clear : NoneOf (Fault job) checkOrder → odd (job .list) ≡ false → length (job .list) ≤ 512 → NoneOf (Fault job) (checkOrder ++ (LIST ∷ []))
+  pub list-clear : NoneOf (Fault job) checkOrder → odd (job .list) ≡ false → length (job .list) ≤ mostEntries → NoneOf (Fault job) (checkOrder ++ (LIST ∷ []))
   list-clear clear even few = none-both (Fault job) checkOrder (LIST ∷ []) clear (no-list, tt)
     where
       no-list : (p : ℕ) → Fault job LIST p → ⊥

@@ -7,6 +7,7 @@ use mathlib.Core.List.{List, [], _∷_, _++_}
 use Prim.Native.Nat.{ℕ, _+_, _*_, _≤_, _<_}
 use native.Mathlib.Omega.{arith}
 use lib.ListN.{length, drop, replicate}
+use Rattle.words.specs.Limits.{mostEntries}
 use Rattle.words.specs.declared.numbers.PairNumber.{PairNumber}
 use Rattle.rows.specs.Placed.{zeroed}
 use Rattle.rows.proofs.Laws.{behind-cleared, cleared-again}
@@ -81,7 +82,7 @@ module _ {t list class work : List ℕ} (passed : TablePassed t list class work)
     clear-of-8 : NoneOf (Fault (jobOf t list class work)) (checkOrder ++ (LIST ∷ []))
     clear-of-8 = let g : BadList false list = subst (λ (a : Bool). BadList a list) no-fault good in list-clear (passed .clear) (g .0) (g .1)
 
-    pub few-entries : length list ≤ 512
+    pub few-entries : length list ≤ mostEntries
     few-entries = let g : BadList false list = subst (λ (a : Bool). BadList a list) no-fault good in g .1
 
     pub side-verdict : found < length (pairsOf list) → (at : PairNumber) → at .0 ≡ found + 1 → Verdict t list class work (Matched.Side at) class work

@@ -5,6 +5,7 @@ use mathlib.Core.Logic.{_⊎_}
 use mathlib.Core.List.{List}
 use Prim.Native.Nat.{ℕ, _*_, _≤_, _<_}
 use lib.ListN.{length}
+use Rattle.words.specs.Limits.{mostWords, mostEntries}
 use Rattle.graphs.specs.Graph.{Symbols, Graph, WellFormed}
 use Rattle.graphs.specs.Partition.{Pair, pairsOf, Sides, Cycle}
 use Rattle.table.specs.Table.{graphOf}
@@ -13,8 +14,8 @@ use Rattle.table.specs.Shaped.{Shaped}
 
 -- "odd number of entries, or over 512", or neither
 abbrev pub BadList : Bool → List ℕ → Type 0
-BadList true list = (odd list ≡ true) ⊎ (512 < length list)
-BadList false list = (odd list ≡ false) × (length list ≤ 512)
+BadList true list = (odd list ≡ true) ⊎ (mostEntries < length list)
+BadList false list = (odd list ≡ false) × (length list ≤ mostEntries)
 
 -- some class reaches itself, or none does
 abbrev pub Cycles : {S : Symbols} → Bool → Graph S → List Pair → Type 0
@@ -24,11 +25,11 @@ Cycles false G pairs = Cycle G pairs → ⊥
 -- What a job has that passes all checks.
 pub record Ready (job : Job) : Type 0 where
   pub some-word : 0 < length (job .table)
-  pub small : length (job .table) ≤ 4096
+  pub small : length (job .table) ≤ mostWords
   pub class-enough : length (job .table) ≤ job .class-room
   pub work-enough : 4 * length (job .table) ≤ job .work-room
   pub shaped : Shaped (job .table)
   pub well-formed : WellFormed (graphOf (job .table))
   pub even : odd (job .list) ≡ false
-  pub few : length (job .list) ≤ 512
+  pub few : length (job .list) ≤ mostEntries
   pub sides : Sides (graphOf (job .table)) (pairsOf (job .list))

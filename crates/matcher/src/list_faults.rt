@@ -7,10 +7,8 @@ ghost use Rattle.answering.specs.Answers.{First};
 ghost use Rattle.table.specs.Faults.{pairAt, badSides};
 ghost use Rattle.matcher.specs.Stages.{BadList};
 use table::node;
+use words::limits::MOST_ENTRIES;
 use words::numbers::Address;
-
-// A list has at most so many entries, two for each pair.
-const MOST_ENTRIES: usize = 512;
 
 // Answer 8, LIST: "odd number of entries, or over 512".
 pub(crate) fn is_bad_list(list: &[u16]) -> bool

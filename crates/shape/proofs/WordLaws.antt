@@ -12,6 +12,7 @@ use native.Mathlib.Omega.{arith}
 use lib.Dec.{eqb, ltb}
 use lib.ListN.{length}
 use borrow.Author.Tests.{eq-eqb, ne-eqb, le-leb, lt-leb}
+use Rattle.words.specs.Limits.{mostArguments}
 use Rattle.words.specs.Word.{sameKind, isOneOf}
 use Rattle.words.specs.declared.kind.Kind.{Kind}
 use Rattle.words.specs.declared.kind.Kind.the-variants.{Pointer, Count, NoWord}
@@ -38,7 +39,7 @@ later-word t (suc a) other k c e = e ∙ (λ i. badKind (k i) (c i))
 
 pub good-kind : (k : Kind) (content : ℕ) → (k ≡ NoWord → ⊥) → (k ≡ Count → ⊥) → false ≡ badKind k content
 unfolding badKind
-good-kind k content word other = λ i. sym (other-kind k NoWord word) i || (sym (other-kind k Count other) i && (eqb content 0 || ltb 255 content))
+good-kind k content word other = λ i. sym (other-kind k NoWord word) i || (sym (other-kind k Count other) i && (eqb content 0 || ltb mostArguments content))
 
 module _ (t : List ℕ) (b : ℕ) where
   pub target-nothing : b ≡ 0 → true ≡ badTarget t b

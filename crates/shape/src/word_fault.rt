@@ -6,10 +6,8 @@ ghost use lib.ListN.{length};
 ghost use Rattle.answering.specs.Answers.{First};
 ghost use Rattle.table.specs.Faults.{badKind, badWord};
 use words::kind::Kind;
+use words::limits::MOST_ARGUMENTS;
 use words::word;
-
-// The largest argument count.
-const MOST_ARGUMENTS: u16 = 255;
 
 // Whether a word that is not the first is bad, by its kind and its content.
 pub fn is_bad_kind(kind: Kind, content: u16) -> bool

@@ -8,6 +8,7 @@ use mathlib.Core.Option.{Option, none, some}
 use Prim.Native.Nat.{ℕ, _+_}
 use lib.Dec.{eqb, leb, ltb}
 use lib.ListN.{length, take, drop}
+use Rattle.words.specs.Limits.{mostWords, mostEntries}
 use Rattle.words.specs.Word.{sameKind}
 use Rattle.words.specs.declared.kind.Kind.{Kind}
 use Rattle.graphs.specs.Graph.{Symbols, Graph}
@@ -30,7 +31,7 @@ repeatsAt t a b = sameKind (kindAt t a) Kind.Variable and sameKind (kindAt t b) 
 -- the rows 1 and 3 to 6 do not apply to the table
 unfoldable pub goodTable : List ℕ → Bool
 goodTable t =
-    counts (length t) 4096
+    counts (length t) mostWords
     and allBelow (λ a. not (badWord t a)) (length t)
     and isNone (breakFrom item 1 (drop 1 t))
     and allBelow (λ a. not (badPointer t a)) (length t)
@@ -41,7 +42,7 @@ goodTable t =
 -- the rows 8 and 9 do not apply to the list
 unfoldable pub goodList : List ℕ → List ℕ → Bool
 goodList t list =
-    not (odd list) and leb (length list) 512 and allBelow (λ k. not (badSides t (pairAt (pairsOf list) k))) (length (pairsOf list))
+    not (odd list) and leb (length list) mostEntries and allBelow (λ k. not (badSides t (pairAt (pairsOf list) k))) (length (pairsOf list))
 
 -- ---- certificates
 

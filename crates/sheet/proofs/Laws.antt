@@ -11,6 +11,7 @@ use native.Mathlib.Omega.{arith}
 use borrow.Author.Tests.{eq-eqb, eqb-true, leb-true, ltb-true, not-true}
 use lib.Dec.{eqb}
 use lib.ListN.{length, take, drop}
+use Rattle.words.specs.Limits.{mostWords, mostEntries}
 use Rattle.words.specs.Word.{sameKind}
 use Rattle.words.specs.declared.kind.Kind.{Kind}
 use Rattle.answering.specs.Answers.{Answered, NoneOf}
@@ -63,7 +64,7 @@ ends-in (ends row) test e = (row, refl, e)
 -- what a table has that passes its test
 record Sent (t : List ℕ) : Type 0 where
   pub shaped : Shaped t
-  pub small : length t ≤ 4096
+  pub small : length t ≤ mostWords
   pub names : (a : ℕ) → Repeats t a → ⊥
 
 repeats-shown : (t : List ℕ) (a : ℕ) (r : Repeats t a) → repeatsAt t a (r .earlier) ≡ true
@@ -76,7 +77,7 @@ repeats-shown t a r =
 good-sent : (t : List ℕ) → goodTable t ≡ true → Sent t
 unfolding goodTable
 good-sent t e =
-    let size : counts (length t) 4096 ≡ true = both-true e .0 in
+    let size : counts (length t) mostWords ≡ true = both-true e .0 in
     let words : allBelow (λ a. not (badWord t a)) (length t) ≡ true = both-true (both-true e .1) .0 in
     let whole : isNone (breakFrom item 1 (drop 1 t)) ≡ true = both-true (both-true (both-true e .1) .1) .0 in
     let pointers : allBelow (λ a. not (badPointer t a)) (length t) ≡ true = both-true (both-true (both-true (both-true e .1) .1) .1) .0 in
@@ -89,7 +90,7 @@ good-sent t e =
             whole = is-none (breakFrom item 1 (drop 1 t)) whole;
             pointers = λ a h. fails (all-below (λ b. not (badPointer t b)) (length t) pointers a h);
           };
-      small = leb-true (length t) 4096 (both-true size .1);
+      small = leb-true (length t) mostWords (both-true size .1);
       names = λ a r.
           fails
           (all-below (λ b. not (repeatsAt t a b)) a
@@ -101,11 +102,11 @@ good-sent t e =
 -- ---- rows that do not apply
 
 good-list : (t list : List ℕ) → goodList t list ≡ true
-    → (odd list ≡ false) × (length list ≤ 512) × ((k : ℕ) → k < length (pairsOf list) → badSides t (pairAt (pairsOf list) k) ≡ true → ⊥)
+    → (odd list ≡ false) × (length list ≤ mostEntries) × ((k : ℕ) → k < length (pairsOf list) → badSides t (pairAt (pairsOf list) k) ≡ true → ⊥)
 unfolding goodList
 good-list t list e = (
   not-true (odd list) (both-true e .0),
-  leb-true (length list) 512 (both-true (both-true e .1) .0),
+  leb-true (length list) mostEntries (both-true (both-true e .1) .0),
   λ k h. fails (all-below (λ j. not (badSides t (pairAt (pairsOf list) j))) (length (pairsOf list)) (both-true (both-true e .1) .1) k h),
 )
 

@@ -12,6 +12,7 @@ use borrow.Author.Tests.{eqb-true, eqb-false, leb-true, leb-false}
 use lib.Dec.{eqb, leb, ltb}
 use lib.ListN.{length, drop}
 use lib.Seq.{getD-drop}
+use Rattle.words.specs.Limits.{mostArguments}
 use Rattle.words.specs.Word.{sameKind, argumentKinds, isOneOf, kindOf, contentOf}
 use Rattle.words.specs.declared.kind.Kind.{Kind}
 use Rattle.words.specs.declared.kind.Kind.the-variants.{Function, Pointer, Count, NoWord}
@@ -123,20 +124,20 @@ module _ {t : List ℕ} (c : Shaped t) where
       let b : Arguments t (x + 2) (contentAt t (x + 1)) = block-arguments x (f .0) in
       argument-node (x + 2 + i) (omega (arith, b .fit, f .1)) (b .stand i (f .1))
 
-  pub shaped-degree : (x : ℕ) → degree t x ≤ 255
+  pub shaped-degree : (x : ℕ) → degree t x ≤ mostArguments
   unfolding degree choose badLater badKind
   shaped-degree x = go (sameKind (kindAt t x) Function) refl
     where
-      small-count : (a : ℕ) → 0 < a → a < length t → kindAt t a ≡ Count → contentAt t a ≤ 255
+      small-count : (a : ℕ) → 0 < a → a < length t → kindAt t a ≡ Count → contentAt t a ≤ mostArguments
       small-count zero l u e = absurd (omega arith)
       small-count (suc a) l u e =
           omega (
             arith,
             leb-false 256 (contentAt t (suc a))
-                (or-false (eqb (contentAt t (suc a)) 0) (ltb 255 (contentAt t (suc a))) (fails _ (λ r. c .words (suc a) u (ap (λ (k : Kind). badKind k (contentAt t (suc a))) e ∙ r))) .1),
+                (or-false (eqb (contentAt t (suc a)) 0) (ltb mostArguments (contentAt t (suc a))) (fails _ (λ r. c .words (suc a) u (ap (λ (k : Kind). badKind k (contentAt t (suc a))) e ∙ r))) .1),
           )
 
-      go : (b : Bool) → sameKind (kindAt t x) Function ≡ b → choose b (contentAt t (x + 1)) 0 ≤ 255
+      go : (b : Bool) → sameKind (kindAt t x) Function ≡ b → choose b (contentAt t (x + 1)) 0 ≤ mostArguments
       go true e =
           let f : kindAt t x ≡ Function = same-kind-exactly (kindAt t x) Function .0 e in
           small-count (x + 1) (omega arith) (omega (arith, shaped-laid x f)) (block-count x f)

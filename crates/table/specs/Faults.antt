@@ -8,6 +8,7 @@ use mathlib.Core.Option.{some}
 use Prim.Native.Nat.{ℕ, zero, suc, _+_, _*_, _<_}
 use lib.Dec.{eqb, leb, ltb}
 use lib.ListN.{length, getD, take, drop}
+use Rattle.words.specs.Limits.{mostWords, mostEntries, mostArguments}
 use Rattle.words.specs.Word.{sameKind, isOneOf}
 use Rattle.words.specs.declared.kind.Kind.{Kind}
 use Rattle.words.specs.declared.kind.Kind.the-variants.{Variable, Pointer, Count, NoWord}
@@ -31,7 +32,7 @@ sent t list class-room work-room = record { table = t; list = list; class-room =
 -- ---- one word
 
 unfoldable pub badKind : Kind → ℕ → Bool
-badKind k content = sameKind k NoWord || (sameKind k Count && (eqb content 0 || ltb 255 content))
+badKind k content = sameKind k NoWord || (sameKind k Count && (eqb content 0 || ltb mostArguments content))
 
 unfoldable pub badLater : ℕ → List ℕ → Bool
 badLater zero t = not (eqb (wordAt t 0) 0)
@@ -95,7 +96,7 @@ number CYCLE = 11
 -- pairs before it are `take i`.
 pub data Fault (job : Job) : Row → ℕ → Type 0 where
   -- "n is 0 or over 4,096"
-  size-fault : (length (job .table) ≡ 0) ⊎ (4096 < length (job .table)) → Fault job SIZE 0
+  size-fault : (length (job .table) ≡ 0) ⊎ (mostWords < length (job .table)) → Fault job SIZE 0
   -- "class buffer under n entries, or work buffer under 4n"
   room-fault : (job .class-room < length (job .table)) ⊎ (job .work-room < 4 * length (job .table)) → Fault job ROOM 0
   -- "lowest such address"
@@ -109,7 +110,7 @@ pub data Fault (job : Job) : Row → ℕ → Type 0 where
   -- "some node reaches itself"
   loop-fault : (x : ℕ) → Steps (Child (graphOf (job .table))) x x → Fault job LOOP 0
   -- "odd number of entries, or over 512"
-  list-fault : (odd (job .list) ≡ true) ⊎ (512 < length (job .list)) → Fault job LIST 0
+  list-fault : (odd (job .list) ≡ true) ⊎ (mostEntries < length (job .list)) → Fault job LIST 0
   -- "lowest such pair number"
   address-fault : {i : ℕ}
       → Lowest (λ k. (k < length (pairsOf (job .list))) × (badSides (job .table) (pairAt (pairsOf (job .list)) k) ≡ true)) i

@@ -2,6 +2,7 @@
 ghost use mathlib.Core.Path.{_≡_};
 ghost use Prim.Native.Nat.{_+_, _<_, _≤_};
 ghost use lib.ListN.{length};
+ghost use Rattle.words.specs.Limits.{mostWords};
 ghost use Rattle.words.specs.Word.{kindOf, sameKind};
 ghost use Rattle.words.specs.declared.kind.Kind.{Kind};
 ghost use Rattle.table.specs.Heads.{top};
@@ -70,7 +71,7 @@ fn named_at(table: &[u32], at: u16) -> Address
 
 // The child at place i, from 0, of the function at an address.
 pub fn child(table: &[u32], x: Address, i: u16) -> Address
-    requires { ⌜ Laid (now table) × (length (now table) ≤ 4096) × (i < degreeAt (now table) (x .0)) ⌝ }
+    requires { ⌜ Laid (now table) × (length (now table) ≤ mostWords) × (i < degreeAt (now table) (x .0)) ⌝ }
     ensures { λ r. ⌜ r .0 ≡ childOf (now (table .entry)) (x .0) i ⌝ }
 {
     let first = x.0 + 2;

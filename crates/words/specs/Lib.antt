@@ -1,3 +1,4 @@
 pub mod Head
+pub mod Limits
 pub mod Meeting
 pub mod Word

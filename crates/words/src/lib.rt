@@ -5,6 +5,7 @@
 // `requires`.
 pub mod head;
 pub mod kind;
+pub mod limits;
 pub mod meeting;
 pub mod numbers;
 pub mod word;

@@ -8,6 +8,7 @@ use mathlib.Core.List.{List}
 use mathlib.Core.Logic.{_⊎_}
 use Prim.Native.Nat.{ℕ, zero, suc, _+_, _-_, _*_, _≤_, _<_}
 use lib.ListN.{length, getD, drop}
+use Rattle.words.specs.Limits.{mostArguments}
 use Rattle.graphs.specs.Partition.{entry}
 use Rattle.cycles.specs.Digraph.{Digraph, Edge, Returns, Searchable}
 
@@ -48,7 +49,7 @@ pub record Follows (D : Digraph) (work : List ℕ) (x y : ℕ) : Type 0 where
 -- The search with `depth` vertices on the path.
 pub record Search (D : Digraph) (work : List ℕ) (depth : ℕ) : Type 0 where
   pub room : 2 * D .size ≤ length work
-  pub few-edges : (x : ℕ) → D .count x ≤ 255
+  pub few-edges : (x : ℕ) → D .count x ≤ mostArguments
   -- new vertices and those on the path are different ones
   pub few : news D work + depth ≤ D .size
   -- the edges passed over lead to vertices from which every walk ends

@@ -6,6 +6,7 @@ use Prim.Native.Nat.{ℕ, _*_, _≤_}
 use native.Mathlib.Omega.{arith}
 use lib.ListN.{length, replicate, length-replicate}
 use lib.Seq.{length-take-le}
+use Rattle.words.specs.Limits.{mostWords}
 use Rattle.listing.proofs.JobLaws.{job-room, front-inside, front-fits}
 use borrow.Author.Needs.{needs}
 use Rattle.listing.proofs.print_entered.Statement.{statement}
@@ -87,7 +88,7 @@ print-variables-requires c κs =
     let k : tie.After-class2 = search needs in
     let a : tie.After-number = search needs in
     let i : tie.Then1 = search needs in
-    front-fits (replicate 8192 0) (s .args .n) (m .match-job .ensures) (in-table s) (t .table2 .given) (sym (a .number .ensures) ∙ i .if1 .taken) (length-replicate {A = ℕ} 4096 0) (k .class2 .given)
+    front-fits (replicate 8192 0) (s .args .n) (m .match-job .ensures) (in-table s) (t .table2 .given) (sym (a .number .ensures) ∙ i .if1 .taken) (length-replicate {A = ℕ} mostWords 0) (k .class2 .given)
 
 returns : tie.Need-returns
 returns c = search needs
