@@ -18,7 +18,7 @@ use Rattle.jobfile.specs.declared.sizes.Sizes.{Sizes}
 use Rattle.jobfile.proofs.ReaderLaws.{judged-only}
 use Rattle.jobfile.proofs.WriteAnswers.{write-contents, write-only}
 use Rattle.jobfile.proofs.Theorems.{reader-accepts-good, read-sizes, good-read-written-again}
-use Rattle.again.specs.Again.{roomAfter, AgainOf}
+use Rattle.again.specs.Again.{roomAgain, AgainOf}
 
 -- the writer refuses an empty row of sizes
 nothing-written : {sizes bodies room after : List ℕ} {w : WriteAnswer} → sizes ≡ [] → WriteOf sizes bodies room w after → after ≡ room
@@ -27,10 +27,10 @@ nothing-written {sizes} {bodies} {room} {after} {w} e r =
 
 pub read-written : {file part room after : List ℕ} {answer : FileAnswer} {sizes : Sizes} {w : WriteAnswer} → AllBytes file → mostBytes ≤ length room
     → ReadOf file answer sizes → BodiesOf file part → WriteOf (take (sizes .count) (sizes .row)) part room w after → AgainOf file room answer after
-unfolding roomAfter
+unfolding roomAgain
 read-written {file} {part} {room} {after} {answer} {sizes} {w} all enough r b written = record { judged = r .judged; same = go answer r (read-sizes r) }
   where
-    go : (q : FileAnswer) → ReadOf file q sizes → take (sizes .count) (sizes .row) ≡ yieldedSizes q file → after ≡ roomAfter q file room
+    go : (q : FileAnswer) → ReadOf file q sizes → take (sizes .count) (sizes .row) ≡ yieldedSizes q file → after ≡ roomAgain q file room
     go Good read e = let good : GoodFile file = reader-accepts-good read .0 refl in good-read-written-again all good read b (omega (arith, good .at-most)) written .1
     go File read e = nothing-written e written
     go Contents read e = nothing-written e written
@@ -38,4 +38,4 @@ read-written {file} {part} {room} {after} {answer} {sizes} {w} all enough r b wr
 
 pub again-only : {file room after₁ after₂ : List ℕ} {r s : FileAnswer} → AgainOf file room r after₁ → AgainOf file room s after₂ → (r ≡ s) × (after₁ ≡ after₂)
 again-only {file} {room} {r = r} {s} a b =
-    let e : r ≡ s = judged-only r s (a .judged) (b .judged) in (e, a .same ∙ ap (λ (q : FileAnswer). roomAfter q file room) e ∙ sym (b .same))
+    let e : r ≡ s = judged-only r s (a .judged) (b .judged) in (e, a .same ∙ ap (λ (q : FileAnswer). roomAgain q file room) e ∙ sym (b .same))

@@ -9,12 +9,12 @@ use Rattle.jobfile.specs.declared.answers.FileAnswer.the-variants.{Good, File, 
 
 -- "A job file that is read and written again has the same bytes": a good file stands in front of the room, and a refused one
 -- leaves the room as it was
-unfoldable pub roomAfter : FileAnswer → List ℕ → List ℕ → List ℕ
-roomAfter Good file room = file ++ drop (length file) room
-roomAfter File file room = room
-roomAfter Contents file room = room
-roomAfter (Body entry) file room = room
+unfoldable pub roomAgain : FileAnswer → List ℕ → List ℕ → List ℕ
+roomAgain Good file room = file ++ drop (length file) room
+roomAgain File file room = room
+roomAgain Contents file room = room
+roomAgain (Body entry) file room = room
 
 pub record AgainOf (file room : List ℕ) (answer : FileAnswer) (after : List ℕ) : Type 0 where
   pub judged : Judged file answer
-  pub same : after ≡ roomAfter answer file room
+  pub same : after ≡ roomAgain answer file room

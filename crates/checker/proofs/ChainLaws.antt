@@ -18,7 +18,7 @@ use borrow.Author.Count.{below-more}
 use Rattle.words.specs.declared.kind.Kind.the-variants.{Variable, NoWord}
 use Rattle.table.specs.Table.{kindAt, contentAt}
 use Rattle.table.specs.Faults.{Repeats}
-use Rattle.checker.specs.Names.{startOf, Reach, here, further, InChain, Chains}
+use Rattle.checker.specs.Steps.Names.{startOf, Reach, here, further, InChain, Chains}
 
 -- a 16-bit number times m
 times-below : (x m : ℕ) → x < 65536 → 0 < m → x * m < m * 65536

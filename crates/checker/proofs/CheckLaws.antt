@@ -26,9 +26,9 @@ use Rattle.table.proofs.WellFormed.{no-fault-shaped}
 use Rattle.checker.specs.declared.answer.Checked.{Checked}
 use Rattle.checker.specs.declared.answer.Checked.the-variants.{Accepted, Refused}
 use Rattle.checker.specs.Check.{numberOf, placeOf, jobOf, CheckOf}
-use Rattle.checker.specs.Names.{RestStays, FirstRepeated}
-use Rattle.checker.specs.Sound.{SoundTable}
-use Rattle.checker.specs.Stages.{ByRows, Roomy, Stage}
+use Rattle.checker.specs.Steps.Names.{RestStays, FirstRepeated}
+use Rattle.checker.specs.Steps.Sound.{SoundTable}
+use Rattle.checker.specs.Steps.Stage.{ByRows, SizeAndRoom, Stage}
 use Rattle.checker.proofs.LoopLaws.{Loops, LoopSearch}
 use Rattle.checker.proofs.NameLaws.{repeats-inside}
 use Rattle.checker.proofs.Stages.{shaped-accepted}
@@ -135,11 +135,11 @@ module _ (t class work : List ℕ) where
   unfolding number left changesNothing
   check-room l u h = record { answered = inr (no-size l u, inl (refl, room-fault h)); class-left = refl; work-left = refl }
 
-  no-room : Roomy t class work → (p : ℕ) → Fault (jobOf t class work) ROOM p → ⊥
+  no-room : SizeAndRoom t class work → (p : ℕ) → Fault (jobOf t class work) ROOM p → ⊥
   no-room roomy p (room-fault h) = ⊎-elim (λ e. omega (arith, roomy .class-enough)) (λ e. omega (arith, roomy .work-enough)) h
 
   -- The answer by the rows from 3 on, with both rows cleared, is the check's.
-  pub check-faults : {class-stage work-stage class-after work-after : List ℕ} {r : Checked} → Roomy t class work
+  pub check-faults : {class-stage work-stage class-after work-after : List ℕ} {r : Checked} → SizeAndRoom t class work
       → Stage tableRows t class work r class-stage work-stage
       → class-after ≡ zeroed (length t) class-stage → work-after ≡ zeroed (4 * length t) work-stage
       → CheckOf t class work r class-after work-after

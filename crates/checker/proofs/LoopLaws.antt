@@ -19,7 +19,7 @@ use Rattle.table.proofs.Children.{NamedChild, named-child, degree-child}
 use Rattle.table.specs.Shaped.{Shaped}
 use Rattle.table.proofs.Shape.{inside-kind, shaped-laid, shaped-degree, shaped-child}
 use Rattle.cycles.specs.Digraph.{Edge, digraphOf, Returns, Searchable, Searched}
-use Rattle.checker.specs.Stages.{counting, Roomy, Kept}
+use Rattle.checker.specs.Steps.Stage.{counting, SizeAndRoom, OnlyFronts}
 
 -- some node reaches itself, or none does
 abbrev pub Loops : Bool → List ℕ → Type 0
@@ -29,7 +29,7 @@ Loops false t = (x : ℕ) → Steps (Child (graphOf t)) x x → ⊥
 -- what the search for loops finds, and what it keeps
 pub record LoopSearch (t class work : List ℕ) (found : Bool) (class-after work-after : List ℕ) : Type 0 where
   pub truth : Loops found t
-  pub kept : Kept t class work class-after work-after
+  pub kept : OnlyFronts t class work class-after work-after
 
 -- ---- the row of own classes
 
@@ -83,7 +83,7 @@ module _ (t row rest : List ℕ) (own : row ≡ counting 0 (length t) ++ rest) w
 
 -- ---- what is kept
 
-pub loop-search : {t class work class-after work-after : List ℕ} {found : Bool} → Roomy t class work → Shaped t
+pub loop-search : {t class work class-after work-after : List ℕ} {found : Bool} → SizeAndRoom t class work → Shaped t
     → class-after ≡ counting 0 (length t) ++ drop (length t) class → Searched t class-after work found work-after → LoopSearch t class work found class-after work-after
 loop-search {t} {class} {work} {class-after} {work-after} {found} roomy shaped own searched =
     record {

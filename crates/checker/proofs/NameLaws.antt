@@ -24,7 +24,7 @@ use Rattle.words.specs.declared.kind.Kind.the-variants.{Variable}
 use Rattle.table.specs.Table.{wordAt, kindAt, contentAt, nodeKind}
 use Rattle.table.proofs.Shape.{inside-kind}
 use Rattle.table.specs.Faults.{Repeats}
-use Rattle.checker.specs.Names.{Either, startOf, headIn, nextIn, RestStays, Chained, ChainedOn, Judged, FirstRepeated}
+use Rattle.checker.specs.Steps.Names.{Either, startOf, headIn, nextIn, RestStays, Chained, ChainedOn, NameJudged, FirstRepeated}
 use Rattle.checker.proofs.ChainLaws.{chains-none, chains-pass, chains-more, InFront}
 
 pub repeats-inside : {t : List ℕ} {a : ℕ} → Repeats t a → a < length t
@@ -84,21 +84,21 @@ stays-on p q = record { rest = q .rest ∙ p .rest; same-length = q .same-length
 pub chained-pass : {t work : List ℕ} {a : ℕ} → Chained t work a → (kindAt t a ≡ Variable → ⊥) → Chained t work (a + 1)
 chained-pass c other = record { no-variable = c .no-variable; small = c .small; room = c .room; chains = chains-pass (c .chains) other }
 
-pub judged-other : {t work : List ℕ} {a : ℕ} → Chained t work a → (kindAt t a ≡ Variable → ⊥) → Judged t work work a false
+pub judged-other : {t work : List ℕ} {a : ℕ} → Chained t work a → (kindAt t a ≡ Variable → ⊥) → NameJudged t work work a false
 judged-other {t} {work} c other = record {
   verdict = λ r. other (r .later);
   goes-on = record { chained = chained-pass c other; stays = stays-same t work };
 }
 
 module _ {b : Bool} (t work : List ℕ) (a : ℕ) (told : Either b (Repeats t a) (Repeats t a → ⊥)) where
-  pub judged-repeated : b ≡ true → Judged t work work a true
+  pub judged-repeated : b ≡ true → NameJudged t work work a true
   judged-repeated e = record { verdict = subst (λ c. Either c (Repeats t a) (Repeats t a → ⊥)) e told; goes-on = refl }
 
-  pub judged-new : {exit : List ℕ} → b ≡ false → ChainedOn t work exit (a + 1) → Judged t work exit a false
+  pub judged-new : {exit : List ℕ} → b ≡ false → ChainedOn t work exit (a + 1) → NameJudged t work exit a false
   judged-new e on = record { verdict = subst (λ c. Either c (Repeats t a) (Repeats t a → ⊥)) e told; goes-on = on }
 
 -- the work row, whatever the verdict
-pub judged-stays : {t work exit : List ℕ} {a : ℕ} (b : Bool) → Judged t work exit a b → RestStays t work exit
+pub judged-stays : {t work exit : List ℕ} {a : ℕ} (b : Bool) → NameJudged t work exit a b → RestStays t work exit
 judged-stays {t} {work} true j = subst (RestStays t work) (sym (j .goes-on)) (stays-same t work)
 judged-stays false j = j .goes-on .stays
 
@@ -158,11 +158,11 @@ pub none-more :
     {t entry work exit : List ℕ} {a : ℕ} {b : Bool} →
     NoneYet t entry work a →
     a < length t →
-    Judged t work exit a b →
+    NameJudged t work exit a b →
     b ≡ false →
     NoneYet t entry exit (a + 1)
 none-more {t} {entry} {work} {exit} {a} s h j e =
-    let d : Judged t work exit a false = subst (λ c. Judged t work exit a c) e j in
+    let d : NameJudged t work exit a false = subst (λ c. NameJudged t work exit a c) e j in
     record {
       row = record { chained = d .goes-on .chained; stays = stays-on (s .row .stays) (d .goes-on .stays) };
       within = omega arith;
@@ -170,11 +170,11 @@ none-more {t} {entry} {work} {exit} {a} s h j e =
     }
 
 module _ {t entry cleared work : List ℕ} {a : ℕ} (c : RestStays t entry cleared) (s : NoneYet t cleared work a) where
-  pub answer-here : {exit : List ℕ} {b : Bool} → Judged t work exit a b → b ≡ true → FirstRepeated t entry exit a
+  pub answer-here : {exit : List ℕ} {b : Bool} → NameJudged t work exit a b → b ≡ true → FirstRepeated t entry exit a
   answer-here {exit} {b} j e = record {
     within = s .within;
     none-before = s .none-before;
-    repeats = λ h. let d : Judged t work exit a true = subst (λ c. Judged t work exit a c) e j in d .verdict;
+    repeats = λ h. let d : NameJudged t work exit a true = subst (λ c. NameJudged t work exit a c) e j in d .verdict;
     stays = stays-on c (stays-on (s .row .stays) (judged-stays b j));
   }
 

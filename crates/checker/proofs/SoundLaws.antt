@@ -26,7 +26,7 @@ use Rattle.table.specs.Table.{wordAt, kindAt, contentAt}
 use Rattle.table.specs.Layout.{Wanted, item, count, arguments, more, canStand, after, atEnd}
 use Rattle.table.specs.Faults.{badKind, badLater, badTarget, Repeats}
 use Rattle.table.specs.Shaped.{Shaped}
-use Rattle.checker.specs.Sound.{soundCount, Good, Walked}
+use Rattle.checker.specs.Steps.Sound.{soundCount, Good, Walked}
 use Rattle.shape.proofs.LayoutLaws.{break-stands, break-ends}
 use Rattle.checker.proofs.NameLaws.{repeats-inside}
 

@@ -20,7 +20,7 @@ use Rattle.table.specs.Faults.{Job, sent, badWord, badPointer, WORD, LAYOUT, PO
 use Rattle.table.specs.Shaped.{Shaped}
 use Rattle.table.proofs.Blocks.{break-stands, break-stops}
 use Rattle.checker.specs.declared.answer.Checked.the-variants.{Accepted, Refused}
-use Rattle.checker.specs.Stages.{ByRows}
+use Rattle.checker.specs.Steps.Stage.{ByRows}
 
 -- ---- the shape rows
 

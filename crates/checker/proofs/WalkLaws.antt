@@ -17,19 +17,19 @@ use Rattle.words.proofs.KindLaws.{not-both}
 use Rattle.table.specs.Table.{wordAt, kindAt, contentAt}
 use Rattle.table.specs.Layout.{Wanted, item, count, more}
 use Rattle.table.specs.Faults.{badTarget, Repeats}
-use Rattle.checker.specs.Names.{RestStays, Chained, Judged}
-use Rattle.checker.specs.Sound.{soundCount, Walked, AsArgument, AsArguments, NextItem, SoundTable}
+use Rattle.checker.specs.Steps.Names.{RestStays, Chained, NameJudged}
+use Rattle.checker.specs.Steps.Sound.{soundCount, Walked, AsArgument, AsArguments, NextItem, SoundTable}
 use Rattle.checker.proofs.NameLaws.{stays-same, stays-on, chained-pass, judged-stays}
 use Rattle.checker.proofs.SoundLaws.{sound-count, variable-good, constant-good, pointer-good, variable-item, constant-item, walked-none, walked-on, argument-more, arguments-end, walked-block, walked-shaped, walked-names}
 
 -- a name that was judged to be new
-new-name : {t entry exit : List ℕ} {a : ℕ} {repeated : Bool} → Judged t entry exit a repeated → repeated ≡ false → (Repeats t a → ⊥) × Chained t exit (a + 1)
-new-name {t} {entry} {exit} {a} j e = let d : Judged t entry exit a false = subst (λ b. Judged t entry exit a b) e j in (d .verdict, d .goes-on .chained)
+new-name : {t entry exit : List ℕ} {a : ℕ} {repeated : Bool} → NameJudged t entry exit a repeated → repeated ≡ false → (Repeats t a → ⊥) × Chained t exit (a + 1)
+new-name {t} {entry} {exit} {a} j e = let d : NameJudged t entry exit a false = subst (λ b. NameJudged t entry exit a b) e j in (d .verdict, d .goes-on .chained)
 
 -- ---- one argument
 
 module _ (t : List ℕ) (a : ℕ) (later : 0 < a) where
-  pub variable-argument : {entry exit : List ℕ} (repeated : Bool) → kindAt t a ≡ Variable → Judged t entry exit a repeated → AsArgument t entry exit a (not repeated)
+  pub variable-argument : {entry exit : List ℕ} (repeated : Bool) → kindAt t a ≡ Variable → NameJudged t entry exit a repeated → AsArgument t entry exit a (not repeated)
   variable-argument repeated e j = record {
     stays = judged-stays repeated j;
     goes-on = λ s. let n = new-name j (not-true repeated s) in (ap (isOneOf argumentKinds) e, variable-good t a later e (n .0), n .1);
@@ -92,7 +92,7 @@ pub nowhere : {t entry exit : List ℕ} {here : Wanted} {a : ℕ} → RestStays 
 nowhere s = record { stays = s; goes-on = λ stopped. absurd (stopped refl) }
 
 module _ (t : List ℕ) (a : ℕ) (later : 0 < a) (inside : a < length t) where
-  pub next-variable : {entry exit : List ℕ} (repeated : Bool) → kindAt t a ≡ Variable → Judged t entry exit a repeated → repeated ≡ false → NextItem t entry exit item a (a + 1)
+  pub next-variable : {entry exit : List ℕ} (repeated : Bool) → kindAt t a ≡ Variable → NameJudged t entry exit a repeated → repeated ≡ false → NextItem t entry exit item a (a + 1)
   next-variable repeated e j new = record {
     stays = judged-stays repeated j;
     goes-on = λ goes. (omega arith, variable-item t a later inside e (new-name j new .0), new-name j new .1);

@@ -1,5 +1,3 @@
--- Check is what the check promises; the others serve this crate alone.
+-- What a reader must believe of the table check (Check). Steps has what its private steps promise each other.
 pub mod Check
-pub mod Names
-pub mod Sound
-pub mod Stages
+pub mod Steps

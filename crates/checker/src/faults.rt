@@ -1,6 +1,6 @@
 // The answers from 3 on, for a table of an allowed size with room for it.
 ghost use Rattle.table.specs.Faults.{tableRows};
-ghost use Rattle.checker.specs.Stages.{Roomy, Stage};
+ghost use Rattle.checker.specs.Steps.Stage.{SizeAndRoom, Stage};
 use crate::answer::Checked;
 use crate::loops;
 use crate::name_fault;
@@ -11,7 +11,7 @@ use words::numbers::Address;
 
 // The answer by the rows from 3 to 7, gone through row after row.
 fn through_all_rows(table: &[u32], class: &mut [u16], work: &mut [u16]) -> Checked
-    requires { ⌜ Roomy (now table) (now class) (now work) ⌝ }
+    requires { ⌜ SizeAndRoom (now table) (now class) (now work) ⌝ }
     ensures { λ r. ⌜ Stage tableRows (now (table .entry)) (now (class .entry)) (now (work .entry)) r (now (class .exit)) (now (work .exit)) ⌝ }
 {
     if let Checked::Refused(wrong) = shape_fault::row_by_row(table) {
@@ -28,7 +28,7 @@ fn through_all_rows(table: &[u32], class: &mut [u16], work: &mut [u16]) -> Check
 // through row by row, for the number and the place. Entries above n and 4n stay; those below are
 // written over.
 pub(crate) fn faults(table: &[u32], class: &mut [u16], work: &mut [u16]) -> Checked
-    requires { ⌜ Roomy (now table) (now class) (now work) ⌝ }
+    requires { ⌜ SizeAndRoom (now table) (now class) (now work) ⌝ }
     ensures { λ r. ⌜ Stage tableRows (now (table .entry)) (now (class .entry)) (now (work .entry)) r (now (class .exit)) (now (work .exit)) ⌝ }
 {
     if sound::is_sound(table, work) {

@@ -15,7 +15,7 @@ ghost use Rattle.words.specs.Limits.{mostWords};
 ghost use Rattle.words.specs.declared.kind.Kind.{Kind};
 ghost use Rattle.table.specs.Faults.{Repeats};
 ghost use Rattle.table.specs.Table.{wordAt, kindAt, contentAt};
-ghost use Rattle.checker.specs.Names.{Either, startOf, Chained, ChainedOn, Judged, FirstRepeated};
+ghost use Rattle.checker.specs.Steps.Names.{Either, startOf, Chained, ChainedOn, NameJudged, FirstRepeated};
 use words::kind::Kind;
 use words::numbers::Label;
 use words::word;
@@ -76,7 +76,7 @@ fn put_in_front(table: &[u32], work: &mut [u16], at: usize)
 // Whether the variable at an address repeats a name. One that does not joins the chains.
 pub(crate) fn repeats_variable(table: &[u32], work: &mut [u16], at: usize) -> bool
     requires { ⌜ Chained (now table) (now work) at × (at < length (now table)) × (kindAt (now table) at ≡ Kind.Variable) ⌝ }
-    ensures { λ r. ⌜ Judged (now (table .entry)) (now (work .entry)) (now (work .exit)) at r ⌝ }
+    ensures { λ r. ⌜ NameJudged (now (table .entry)) (now (work .entry)) (now (work .exit)) at r ⌝ }
 {
     if stood_earlier(table, work, at) {
         return true;
@@ -88,7 +88,7 @@ pub(crate) fn repeats_variable(table: &[u32], work: &mut [u16], at: usize) -> bo
 // Whether the word at an address repeats a name. A variable that does not joins the chains.
 fn repeats_name(table: &[u32], work: &mut [u16], at: usize) -> bool
     requires { ⌜ Chained (now table) (now work) at × (at < length (now table)) ⌝ }
-    ensures { λ r. ⌜ Judged (now (table .entry)) (now (work .entry)) (now (work .exit)) at r ⌝ }
+    ensures { λ r. ⌜ NameJudged (now (table .entry)) (now (work .entry)) (now (work .exit)) at r ⌝ }
 {
     if let Kind::Variable = word::kind(table[at]) {
         repeats_variable(table, work, at)

@@ -3,7 +3,7 @@ ghost use Prim.Native.Nat.{_≤_};
 ghost use lib.ListN.{length};
 ghost use Rattle.words.specs.Limits.{mostWords};
 ghost use Rattle.table.specs.Faults.{shapeRows};
-ghost use Rattle.checker.specs.Stages.{ByRows};
+ghost use Rattle.checker.specs.Steps.Stage.{ByRows};
 use crate::answer::Checked;
 use answering::fault::TableFault;
 use shape::layout_fault;

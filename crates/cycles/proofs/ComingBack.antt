@@ -8,8 +8,8 @@ use lib.ListN.{set}
 use lib.Seq.{getD-set-same, getD-set-other}
 use Rattle.cycles.specs.Digraph.{Digraph}
 use Rattle.cycles.specs.Steps.Marks.{mark, finishedMark, onPath, Safe, Follows, Over}
-use Rattle.cycles.proofs.Moves.{Moved, finish, finished-safe}
-use Rattle.cycles.proofs.Turns.{Turned, Turning, end-inside}
+use Rattle.cycles.proofs.Moves.{SearchMoved, finish, finished-safe}
+use Rattle.cycles.proofs.Turns.{SearchTurned, Turning, end-inside}
 
 -- All edges of x are passed over, and w′ has x as finished.
 pub record Leaving (D : Digraph) (w w′ : List ℕ) (depth x j : ℕ) : Type 0 where
@@ -21,12 +21,12 @@ module _ {D : Digraph} {w w′ : List ℕ} {depth x j : ℕ} (L : Leaving D w w�
   T : Turning D w depth x j
   T = L .turning
 
-  left-path : Moved D w w′ (depth - 1)
+  left-path : SearchMoved D w w′ (depth - 1)
   left-path =
-      subst (λ (v : List ℕ). Moved D w v (depth - 1)) (sym (L .stored))
+      subst (λ (v : List ℕ). SearchMoved D w v (depth - 1)) (sym (L .stored))
       (finish (T .search) x (T .some) (T .end) (λ k h old. T .passed .over .ends k (omega arith) (omega (arith, L .all))))
 
-  pub coming-out : (x′ i′ : ℕ) → depth - 1 ≤ 0 → Turned D w w′ (depth - 1) x′ i′
+  pub coming-out : (x′ i′ : ℕ) → depth - 1 ≤ 0 → SearchTurned D w w′ (depth - 1) x′ i′
   coming-out x′ i′ empty =
       record {
         going = record { search = left-path .search; end = λ some. absurd (omega arith); over = λ some. absurd (omega arith) };
@@ -38,7 +38,7 @@ module _ {D : Digraph} {w w′ : List ℕ} {depth x j : ℕ} (L : Leaving D w w�
     pub back-inside : x′ < D .size
     back-inside = omega (arith, left-path .search .inside (depth - 1 - 1) (omega arith))
 
-    pub coming-back : {i′ : ℕ} → i′ ≡ mark w′ x′ → Turned D w w′ (depth - 1) x′ i′
+    pub coming-back : {i′ : ℕ} → i′ ≡ mark w′ x′ → SearchTurned D w w′ (depth - 1) x′ i′
     coming-back {i′} from =
         record {
           going = record { search = left-path .search; end = λ some. sym end; over = λ some. over };

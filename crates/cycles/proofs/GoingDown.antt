@@ -11,7 +11,7 @@ use Rattle.cycles.specs.Steps.Marks.{mark, finishedMark, onPath, Follows
 use Rattle.cycles.proofs.Stores.{grown-join}
 use Rattle.cycles.proofs.Moves.{Advanced, advance, path-room}
 use Rattle.cycles.proofs.Answers.{closed}
-use Rattle.cycles.proofs.Turns.{Turned, Turning, started-at, end-inside, end-begun}
+use Rattle.cycles.proofs.Turns.{SearchTurned, Turning, started-at, end-inside, end-begun}
 
 -- The edge of x at place j leads to y and must be followed.
 pub record Facing (D : Digraph) (w : List ℕ) (depth x j y : ℕ) : Type 0 where
@@ -37,9 +37,9 @@ module _ {D : Digraph} {w : List ℕ} {depth x j y : ℕ} (F : Facing D w depth 
       unfinished : mark w y ≡ finishedMark → ⊥
       unfinished = subst (λ (z : ℕ). mark w z ≡ finishedMark → ⊥) (F .leads) (T .passed .stops (F .more))
 
-  pub going-down : {w″ : List ℕ} → mark w y ≡ 0 → w″ ≡ set (set (set w x (j + 1)) y 1) (D .size + depth) y → Turned D w w″ (depth + 1) y 0
+  pub going-down : {w″ : List ℕ} → mark w y ≡ 0 → w″ ≡ set (set (set w x (j + 1)) y 1) (D .size + depth) y → SearchTurned D w w″ (depth + 1) y 0
   going-down {w″} fresh stored =
-      subst (λ (v : List ℕ). Turned D w v (depth + 1) y 0) (sym stored)
+      subst (λ (v : List ℕ). SearchTurned D w v (depth + 1) y 0) (sym stored)
       (record { going = M .going; grown = grown-join (A .grown) (M .grown); less = omega (arith, A .at-most, M .less) })
     where
       w′ : List ℕ
@@ -69,5 +69,5 @@ module _ {D : Digraph} {w : List ℕ} {depth x j y : ℕ} (F : Facing D w depth 
           subst (λ (z : ℕ). Follows D w′ z y) (sym end)
           (record { more = omega (arith, raised, F .more); leads = ap (D .next x) (omega (arith, raised)) ∙ F .leads })
 
-      M : Turned D w′ (set (set w′ y 1) (D .size + depth) y) (depth + 1) y 0
+      M : SearchTurned D w′ (set (set w′ y 1) (D .size + depth) y) (depth + 1) y 0
       M = started-at (A .search) y (F .inside) still-new (λ some. follows)

@@ -54,7 +54,7 @@ module _ {D : Digraph} {before depth x m : ℕ} {w w′ : List ℕ} (S : Search 
   distinct′ j k h i e = S .distinct j k h (omega arith) (sym (R .path j (omega arith)) ∙ e ∙ R .path k (omega arith))
 
 -- The search went on and has `depth` vertices on the path.
-pub record Moved (D : Digraph) (before after : List ℕ) (depth : ℕ) : Type 0 where
+pub record SearchMoved (D : Digraph) (before after : List ℕ) (depth : ℕ) : Type 0 where
   pub search : Search D after depth
   pub grown : Grown D before after
   pub less : left D after < left D before
@@ -73,7 +73,7 @@ finished-safe {D} {w} S x h m =
 module _ {D : Digraph} {w : List ℕ} {depth : ℕ} (S : Search D w depth) where
   -- The vertex at the end of the path has passed over all its edges: it is finished, and leaves the path.
   pub finish : (x : ℕ) → 0 < depth → onPath D w (depth - 1) ≡ x
-      → ((i : ℕ) → i < D .count x → mark w x ≤ i + 1 → Safe D (D .next x i)) → Moved D w (set w x finishedMark) (depth - 1)
+      → ((i : ℕ) → i < D .count x → mark w x ≤ i + 1 → Safe D (D .next x i)) → SearchMoved D w (set w x finishedMark) (depth - 1)
   finish x some end all =
       record {
         search = record {
@@ -191,7 +191,7 @@ module _ {D : Digraph} {w : List ℕ} {depth : ℕ} (S : Search D w depth) where
 
   -- A new vertex, to which the end of the path leads if there is one, is begun.
   pub begin : (y : ℕ) → y < D .size → mark w y ≡ 0 → (0 < depth → Follows D w (onPath D w (depth - 1)) y)
-      → Moved D w (set (set w y 1) (D .size + depth) y) (depth + 1)
+      → SearchMoved D w (set (set w y 1) (D .size + depth) y) (depth + 1)
   begin y inside fresh follows =
       record {
         search = record {

@@ -15,7 +15,7 @@ use Rattle.cycles.specs.Digraph.{Digraph, Edge, digraphOf, Searchable, S
 use Rattle.cycles.specs.Steps.Marks.{SearchableRows, mark, Safe, Search, Grown, FoundCycle, Ended, FromRoot, Visited, Told}
 use Rattle.cycles.proofs.Stores.{grown-none, grown-join}
 use Rattle.cycles.proofs.Answers.{start, none, begun-safe}
-use Rattle.cycles.proofs.Turns.{Turned, started-at, end-begun}
+use Rattle.cycles.proofs.Turns.{SearchTurned, started-at, end-begun}
 
 -- ---- one root
 
@@ -24,9 +24,9 @@ stopped-later g s = record { cycle = s .cycle; behind = s .behind ∙ g .behind 
 
 module _ {D : Digraph} {w w′ : List ℕ} {root : ℕ} (S : Search D w 0) (inside : root < D .size) (fresh : mark w root ≡ 0)
     (stored : w′ ≡ set (set w root 1) (D .size + 0) root) where
-  pub rooted : Turned D w w′ 1 root 0
+  pub rooted : SearchTurned D w w′ 1 root 0
   rooted =
-      subst (λ (v : List ℕ). Turned D w v 1 root 0) (sym stored) (started-at S root inside fresh (λ some. absurd (omega arith)))
+      subst (λ (v : List ℕ). SearchTurned D w v 1 root 0) (sym stored) (started-at S root inside fresh (λ some. absurd (omega arith)))
 
   root-begun : 0 < mark w′ root
   root-begun = end-begun (rooted .going .search) (omega arith) (rooted .going .end (omega arith))

@@ -19,7 +19,7 @@ use Rattle.matcher.specs.Match.{numberOf, MatchOf}
 use Rattle.jobfile.specs.declared.answers.WriteAnswer.{WriteAnswer}
 use Rattle.jobfile.specs.declared.answers.WriteAnswer.the-variants.{Written, Contents, Body, File, Room as NoRoom}
 use Rattle.jobfile.specs.File.{fileOf}
-use Rattle.jobfile.specs.Writer.{WriteOf, left as writeLeft, numberOf as writeNumber}
+use Rattle.jobfile.specs.Writer.{WriteOf, roomWritten, numberOf as writeNumber}
 
 left-front : (a n : ℕ) (row : List ℕ) → changesNothing a ≡ false → take n (left a n row) ≡ replicate n 0
 left-front a n row late = ap (take n) (left-zeroed a n row late) ∙ take-at (replicate n 0) (drop n row) n (length-replicate {A = ℕ} n 0)
@@ -57,8 +57,8 @@ module _ {t class work : List ℕ} {r : Checked} {class-after work-after : List 
 
 -- ---- the writer
 
-write-left : (r : WriteAnswer) (file room : List ℕ) → (writeNumber r ≡ 0 → ⊥) → writeLeft r file room ≡ room
-unfolding writeLeft
+write-left : (r : WriteAnswer) (file room : List ℕ) → (writeNumber r ≡ 0 → ⊥) → roomWritten r file room ≡ room
+unfolding roomWritten
 write-left Written file room refused = absurd (refused refl)
 write-left Contents file room refused = refl
 write-left Body file room refused = refl

@@ -27,12 +27,12 @@ use Rattle.jobfile.specs.declared.answers.FileAnswer.the-variants.{Good}
 use Rattle.jobfile.specs.declared.answers.WriteAnswer.{WriteAnswer}
 use Rattle.jobfile.specs.declared.answers.WriteAnswer.the-variants.{Written}
 use Rattle.jobfile.specs.declared.sizes.Sizes.{Sizes}
-use Rattle.jobfile.specs.Faults.{ReadFault, WriteFault, readOrder, writeOrder, number as fileNumber}
+use Rattle.jobfile.specs.Faults.{ReadFault, WriteFault, readOrder, writeOrder, fileNumber}
 use Rattle.jobfile.specs.File.{countIn, GoodFile}
 use Rattle.jobfile.specs.Jobs.{FileJob, sizesOf, bodiesOf, fileOfJobs, Holdable, jobsIn}
 use Rattle.jobfile.specs.Reader.{ReadOf, BodiesOf, numberOf as readNumber, placeOf as readPlace}
 use Rattle.jobfile.specs.Writer.{WriteOf, numberOf as writeNumber, placeOf as writePlace}
-use Rattle.host.specs.Host.{HostOf, HostFault, hostOrder, entryOf, wordsOf, tableOf, listOf, reportOf, writesNothing, number as hostNumber}
+use Rattle.host.specs.Host.{HostOf, HostFault, hostOrder, entryOf, wordsOf, tableOf, listOf, reportOf, writesNothing, hostNumber}
 use Rattle.demands.specs.HostPasses.{HostPasses}
 use Rattle.checker.proofs.OneCheck.{check-only}
 use Rattle.matcher.proofs.OneMatch.{match-only}

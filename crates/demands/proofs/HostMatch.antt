@@ -30,7 +30,7 @@ use Rattle.matcher.proofs.Demands.{accepted-exactly, answer-makes-equal, answer
 use Rattle.jobfile.specs.File.{bodyIn}
 use Rattle.jobfile.specs.Faults.{readOrder}
 use Rattle.jobfile.proofs.NumberLaws.{length-rowIn}
-use Rattle.host.specs.Host.{entryOf, wordsOf, tableOf, listOf, jobOf, of-file, of-match, number, HostFault, size-fault, callRows, earlyOrder, hostOrder, HostOf}
+use Rattle.host.specs.Host.{entryOf, wordsOf, tableOf, listOf, jobOf, of-file, of-match, hostNumber, HostFault, size-fault, callRows, earlyOrder, hostOrder, HostOf}
 use Rattle.host.proofs.ChoiceLaws.{to-match, none-of-match}
 use Rattle.host.proofs.JobLaws.{sizes-pass}
 use Rattle.demands.specs.HostPasses.{HostPasses}
@@ -41,10 +41,10 @@ module _ {bytes : List ℕ} {job : ℕ} {room : List ℕ} (passes : HostPasses b
 
   -- ---- the rows that the host call passes over
 
-  late : (a p : ℕ) → Answered number (HostFault bytes job room) hostOrder a p → Answered matchNumber (Fault (jobOf bytes job)) pairRows a p
+  late : (a p : ℕ) → Answered hostNumber (HostFault bytes job room) hostOrder a p → Answered matchNumber (Fault (jobOf bytes job)) pairRows a p
   late a p x =
       to-match bytes job room pairRows a p refl
-      (rest-answers number (HostFault bytes job room) (earlyOrder ++ map of-match (tableRows ++ listRows)) (map of-match pairRows) a p passes x)
+      (rest-answers hostNumber (HostFault bytes job room) (earlyOrder ++ map of-match (tableRows ++ listRows)) (map of-match pairRows) a p passes x)
 
   -- ---- its job passes the checks of a match
 

@@ -22,7 +22,7 @@ use Rattle.matcher.proofs.Verdicts.{at-most}
 use Rattle.jobfile.specs.declared.answers.WriteAnswer.{WriteAnswer}
 use Rattle.jobfile.specs.declared.answers.WriteAnswer.the-variants.{Written, Contents, Body, File, Room as NoRoom}
 use Rattle.jobfile.specs.File.{fileOf}
-use Rattle.jobfile.specs.Faults.{WriteFault, room-refused, writeOrder, number as fileNumber}
+use Rattle.jobfile.specs.Faults.{WriteFault, room-refused, writeOrder, fileNumber}
 use Rattle.jobfile.specs.Writer.{WriteOf, numberOf as writeNumber}
 use Rattle.jobfile.proofs.Theorems.{writer-writes-good}
 use Rattle.demands.proofs.Buffers.{write-untouched}

@@ -17,9 +17,9 @@ use Rattle.table.specs.Table.{graphOf}
 use Rattle.table.specs.Faults.{number as matchNumber}
 use Rattle.matcher.proofs.Verdicts.{at-most}
 use Rattle.jobfile.specs.File.{bodyIn}
-use Rattle.jobfile.specs.Faults.{number as fileNumber, readOrder}
+use Rattle.jobfile.specs.Faults.{fileNumber, readOrder}
 use Rattle.jobfile.proofs.NumberLaws.{length-bytesOfRow, length-rowIn}
-use Rattle.host.specs.Host.{entryOf, wordsOf, tableOf, listOf, of-file, number, HostFault, room-fault, callRows, earlyOrder, lateOrder, hostOrder, reportOf, writesNothing, roomAfter, HostOf}
+use Rattle.host.specs.Host.{entryOf, wordsOf, tableOf, listOf, of-file, hostNumber, HostFault, room-fault, callRows, earlyOrder, lateOrder, hostOrder, reportOf, writesNothing, roomAfter, HostOf}
 use Rattle.host.proofs.ChoiceLaws.{early-silent}
 use Rattle.demands.proofs.Lengths.{front-length}
 
@@ -47,10 +47,10 @@ module _ {bytes : List ℕ} {job : ℕ} {room : List ℕ} {a : ℕ} {room-after 
 
   pub room-bound : a ≡ 0 → ClassTable (graphOf (tableOf bytes job)) (pairsOf (listOf bytes job)) (h .classes)
       × (room-after ≡ reportOf 0 0 (joins (graphOf (tableOf bytes job)) (h .classes)) (h .classes) ++ drop (6 + 2 * wordsOf bytes job) room)
-  unfolding writesNothing number fileNumber matchNumber
+  unfolding writesNothing hostNumber fileNumber matchNumber
   room-bound z =
       let b = h .bound z in
-      let origin : h .place ≡ 0 = passed-none number (HostFault bytes job room) hostOrder a (h .place) refl z (h .answered) .1 in
+      let origin : h .place ≡ 0 = passed-none hostNumber (HostFault bytes job room) hostOrder a (h .place) refl z (h .answered) .1 in
       let size : length (h .classes) ≡ wordsOf bytes job = b .class-table .long ∙ length-rowIn 4 (wordsOf bytes job) (bodyIn bytes (entryOf job)) in (
         b .class-table,
         room-reported (ap writesNothing z)
@@ -62,10 +62,10 @@ module _ {bytes : List ℕ} {job : ℕ} {room : List ℕ} {a : ℕ} {room-after 
 
   -- An answer that writes is given in room enough.
   enough : writesNothing a ≡ false → 6 + 2 * wordsOf bytes job ≤ length room
-  unfolding number fileNumber
-  enough w = go (answered-parts number (HostFault bytes job room) earlyOrder lateOrder a (h .place) refl (h .answered))
+  unfolding hostNumber fileNumber
+  enough w = go (answered-parts hostNumber (HostFault bytes job room) earlyOrder lateOrder a (h .place) refl (h .answered))
     where
-      go : ((a ≡ 0 → ⊥) × Answered number (HostFault bytes job room) earlyOrder a (h .place)) ⊎ (NoneOf (HostFault bytes job room) earlyOrder × Answered number (HostFault bytes job room) lateOrder a (h .place))
+      go : ((a ≡ 0 → ⊥) × Answered hostNumber (HostFault bytes job room) earlyOrder a (h .place)) ⊎ (NoneOf (HostFault bytes job room) earlyOrder × Answered hostNumber (HostFault bytes job room) lateOrder a (h .place))
           → 6 + 2 * wordsOf bytes job ≤ length room
       go (inl (refused, x)) = let silent : writesNothing a ≡ true = early-silent bytes job room a (h .place) refused x in never (cc)
       go (inr (none-early, later)) = at-most (λ short. none-parts (HostFault bytes job room) (map of-file readOrder) callRows none-early .1 .1 .1 .0 0 (room-fault short))

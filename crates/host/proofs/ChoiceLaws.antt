@@ -16,15 +16,15 @@ use Rattle.answering.proofs.Orders.{each, answered-tested, passed-none, refused
 use Rattle.table.specs.Faults.{Row as MatchRow, Fault, number as matchNumber}
 use Rattle.table.proofs.OneAnswer.{fault-once}
 use Rattle.jobfile.specs.File.{countIn, wordsIn, pairsIn, sizesIn, GoodFile}
-use Rattle.jobfile.specs.Faults.{Row as FileRow, ReadFault, number as fileNumber, readOrder}
+use Rattle.jobfile.specs.Faults.{FileRow, ReadFault, fileNumber, readOrder}
 use Rattle.jobfile.specs.Reader.{numberOf, placeOf, Judged, yieldedSizes, inRow, ReadOf}
 use Rattle.jobfile.specs.declared.answers.FileAnswer.{FileAnswer}
 use Rattle.jobfile.specs.declared.answers.FileAnswer.the-variants.{Good}
 use Rattle.jobfile.specs.declared.sizes.Sizes.{Sizes}
 use Rattle.jobfile.proofs.FileLaws.{length-sizesFrom, entry-in-sizes}
 use Rattle.jobfile.proofs.ReaderLaws.{read-once, good-judged, judged-good, good-number}
-use Rattle.host.specs.Host.{entryOf, wordsOf, jobOf, Row, of-file, JOB, SIZE, ROOM, of-match, number, HostFault, file-fault, job-fault, size-fault, room-fault, match-fault, callRows, earlyOrder, lateOrder, reportOf, writesNothing, HostOf}
-use Rattle.host.specs.Stages.{Sized, no-size, no-room, fits, Numbered, no-job, there, Early, Open, Choice}
+use Rattle.host.specs.Host.{entryOf, wordsOf, jobOf, HostRow, of-file, JOB, SIZE, ROOM, of-match, hostNumber, HostFault, file-fault, job-fault, size-fault, room-fault, match-fault, callRows, earlyOrder, lateOrder, reportOf, writesNothing, HostOf}
+use Rattle.host.specs.Steps.Choice.{Sized, no-size, no-room, fits, Numbered, no-job, there, Early, JobFound, Choice}
 use Rattle.host.specs.declared.choice.Chosen.{Chosen}
 use Rattle.host.specs.declared.choice.Chosen.the-variants.{Refused, Found}
 use Rattle.host.proofs.ReportLaws.{room-untouched}
@@ -32,7 +32,7 @@ use Rattle.host.proofs.ReportLaws.{room-untouched}
 -- ---- the rows
 
 module _ (bytes : List ℕ) (job : ℕ) (room : List ℕ) where
-  pub host-once : (row : Row) (p q : ℕ) → HostFault bytes job room row p → HostFault bytes job room row q → p ≡ q
+  pub host-once : (row : HostRow) (p q : ℕ) → HostFault bytes job room row p → HostFault bytes job room row q → p ≡ q
   host-once row p q (file-fault {row = r} a) (file-fault b) = read-once r p q a b
   host-once row p q (job-fault a) (job-fault b) = refl
   host-once row p q (size-fault a) (size-fault b) = refl
@@ -45,38 +45,38 @@ module _ (bytes : List ℕ) (job : ℕ) (room : List ℕ) where
   out-of-match p (match-fault f) = f
 
   module _ (rows : List MatchRow) where
-    pub from-match : (a p : ℕ) → each (λ row. true) rows ≡ true → Answered matchNumber (Fault (jobOf bytes job)) rows a p → Answered number (HostFault bytes job room) (map of-match rows) a p
-    unfolding number
+    pub from-match : (a p : ℕ) → each (λ row. true) rows ≡ true → Answered matchNumber (Fault (jobOf bytes job)) rows a p → Answered hostNumber (HostFault bytes job room) (map of-match rows) a p
+    unfolding hostNumber
     from-match =
-        carried matchNumber (Fault (jobOf bytes job)) number (HostFault bytes job room) of-match (λ row. true) (λ row. refl) (λ row q t f. match-fault f) (λ row q t f. out-of-match q f) rows
+        carried matchNumber (Fault (jobOf bytes job)) hostNumber (HostFault bytes job room) of-match (λ row. true) (λ row. refl) (λ row q t f. match-fault f) (λ row q t f. out-of-match q f) rows
 
-    pub to-match : (a p : ℕ) → each (λ row. true) rows ≡ true → Answered number (HostFault bytes job room) (map of-match rows) a p → Answered matchNumber (Fault (jobOf bytes job)) rows a p
-    unfolding number
+    pub to-match : (a p : ℕ) → each (λ row. true) rows ≡ true → Answered hostNumber (HostFault bytes job room) (map of-match rows) a p → Answered matchNumber (Fault (jobOf bytes job)) rows a p
+    unfolding hostNumber
     to-match =
-        carried-back matchNumber (Fault (jobOf bytes job)) number (HostFault bytes job room) of-match (λ row. true) (λ row. refl) (λ row q t f. match-fault f) (λ row q t f. out-of-match q f) rows
+        carried-back matchNumber (Fault (jobOf bytes job)) hostNumber (HostFault bytes job room) of-match (λ row. true) (λ row. refl) (λ row q t f. match-fault f) (λ row q t f. out-of-match q f) rows
 
     pub none-of-match : each (λ row. true) rows ≡ true → NoneOf (HostFault bytes job room) (map of-match rows) → NoneOf (Fault (jobOf bytes job)) rows
-    unfolding number
+    unfolding hostNumber
     none-of-match =
-        none-carried matchNumber (Fault (jobOf bytes job)) number (HostFault bytes job room) of-match (λ row. true) (λ row. refl) (λ row q t f. match-fault f) (λ row q t f. out-of-match q f) rows
+        none-carried matchNumber (Fault (jobOf bytes job)) hostNumber (HostFault bytes job room) of-match (λ row. true) (λ row. refl) (λ row q t f. match-fault f) (λ row q t f. out-of-match q f) rows
 
   -- ---- the file
 
   out-of-file : {row : FileRow} (p : ℕ) → HostFault bytes job room (of-file row) p → ReadFault bytes row p
   out-of-file p (file-fault f) = f
 
-  file-answered : (a p : ℕ) → Answered fileNumber (ReadFault bytes) readOrder a p → Answered number (HostFault bytes job room) (map of-file readOrder) a p
-  unfolding number
+  file-answered : (a p : ℕ) → Answered fileNumber (ReadFault bytes) readOrder a p → Answered hostNumber (HostFault bytes job room) (map of-file readOrder) a p
+  unfolding hostNumber
   file-answered a p =
-      carried fileNumber (ReadFault bytes) number (HostFault bytes job room) of-file (λ row. true) (λ row. refl) (λ row q t f. file-fault f) (λ row q t f. out-of-file q f) readOrder a p refl
+      carried fileNumber (ReadFault bytes) hostNumber (HostFault bytes job room) of-file (λ row. true) (λ row. refl) (λ row q t f. file-fault f) (λ row q t f. out-of-file q f) readOrder a p refl
 
   pub early-file : (answer : FileAnswer) {r : ℕ} → Judged bytes answer → r ≡ numberOf answer → (r ≡ 0 → ⊥) → Early bytes job room r
   early-file answer {r} judged e refused = record {
     place = placeOf answer;
     refused = refused;
     answered =
-        subst (λ (a : ℕ). Answered number (HostFault bytes job room) earlyOrder a (placeOf answer)) (sym e)
-        (refused-first number (HostFault bytes job room) (map of-file readOrder) callRows (numberOf answer) (placeOf answer) (λ z. refused (e ∙ z))
+        subst (λ (a : ℕ). Answered hostNumber (HostFault bytes job room) earlyOrder a (placeOf answer)) (sym e)
+        (refused-first hostNumber (HostFault bytes job room) (map of-file readOrder) callRows (numberOf answer) (placeOf answer) (λ z. refused (e ∙ z))
         (file-answered (numberOf answer) (placeOf answer) judged));
   }
 
@@ -84,11 +84,11 @@ module _ (bytes : List ℕ) (job : ℕ) (room : List ℕ) where
 
   module _ (good : GoodFile bytes) where
     no-file-row : NoneOf (HostFault bytes job room) (map of-file readOrder)
-    unfolding number fileNumber
-    no-file-row = passed-none number (HostFault bytes job room) (map of-file readOrder) 0 0 refl refl (file-answered 0 0 (good-judged good)) .0
+    unfolding hostNumber fileNumber
+    no-file-row = passed-none hostNumber (HostFault bytes job room) (map of-file readOrder) 0 0 refl refl (file-answered 0 0 (good-judged good)) .0
 
-    after-file : (a p : ℕ) → Answered number (HostFault bytes job room) callRows a p → Answered number (HostFault bytes job room) earlyOrder a p
-    after-file a p = none-first number (HostFault bytes job room) (map of-file readOrder) callRows a p no-file-row
+    after-file : (a p : ℕ) → Answered hostNumber (HostFault bytes job room) callRows a p → Answered hostNumber (HostFault bytes job room) earlyOrder a p
+    after-file a p = none-first hostNumber (HostFault bytes job room) (map of-file readOrder) callRows a p no-file-row
 
     no-job-row : 1 ≤ job → job ≤ countIn bytes → (p : ℕ) → HostFault bytes job room JOB p → ⊥
     no-job-row some-job inside p (job-fault (inl e)) = omega arith
@@ -108,7 +108,7 @@ module _ (bytes : List ℕ) (job : ℕ) (room : List ℕ) where
 
     sized-choice : {chosen : Chosen} {n p : ℕ} → 1 ≤ job → job ≤ countIn bytes → n ≡ wordsOf bytes job → p ≡ pairsIn bytes (entryOf job)
         → Sized n p (length room) chosen → Choice bytes job room chosen
-    unfolding number
+    unfolding hostNumber
     sized-choice some-job inside words pairs (no-size h) =
         record { place = 0; refused = λ z. omega arith; answered = after-file 1 0 (inr (no-job-row some-job inside, inl (refl, size-fault (subst (λ (n : ℕ). (n ≡ 0) ⊎ (mostWords < n)) words h)))) }
     sized-choice some-job inside words pairs (no-room s f h) =
@@ -123,7 +123,7 @@ module _ (bytes : List ℕ) (job : ℕ) (room : List ℕ) where
     numbered-choice : {chosen : Chosen} (sizes : List ℕ) {jobs : ℕ} → jobs ≡ countIn bytes
         → ((k : ℕ) → k < countIn bytes → (getD sizes (2 * k) 0 ≡ wordsIn bytes k) × (getD sizes (2 * k + 1) 0 ≡ pairsIn bytes k))
         → Numbered sizes jobs job (length room) chosen → Choice bytes job room chosen
-    unfolding number
+    unfolding hostNumber
     numbered-choice sizes e held (no-job h) =
         record { place = 0; refused = λ z. omega arith; answered = after-file 15 0 (inl (refl, job-fault (subst (λ (n : ℕ). (job ≡ 0) ⊎ (n < job)) e h))) }
     numbered-choice sizes e held (there some-job inside s) =
@@ -152,14 +152,14 @@ chosen-numbered {bytes} {job} room {answer} {sizes} read e z by =
 -- ---- these six write nothing
 
 module _ (bytes : List ℕ) (job : ℕ) (room : List ℕ) where
-  pub early-silent : (a p : ℕ) → (a ≡ 0 → ⊥) → Answered number (HostFault bytes job room) earlyOrder a p → writesNothing a ≡ true
-  unfolding number fileNumber writesNothing
-  early-silent a p refused = answered-tested number (HostFault bytes job room) writesNothing earlyOrder a p refl (λ z. absurd (refused z))
+  pub early-silent : (a p : ℕ) → (a ≡ 0 → ⊥) → Answered hostNumber (HostFault bytes job room) earlyOrder a p → writesNothing a ≡ true
+  unfolding hostNumber fileNumber writesNothing
+  early-silent a p refused = answered-tested hostNumber (HostFault bytes job room) writesNothing earlyOrder a p refl (λ z. absurd (refused z))
 
   pub choice-refused : {chosen : Chosen} {a : ℕ} → Choice bytes job room chosen → chosen ≡ Refused a → Early bytes job room a
   choice-refused c e = subst (Choice bytes job room) e c
 
-  pub choice-found : {chosen : Chosen} {n p : ℕ} → Choice bytes job room chosen → chosen ≡ Found n p → Open bytes job n p (length room)
+  pub choice-found : {chosen : Chosen} {n p : ℕ} → Choice bytes job room chosen → chosen ≡ Found n p → JobFound bytes job n p (length room)
   choice-found c e = subst (Choice bytes job room) e c
 
   pub refused-early : {a : ℕ} → Early bytes job room a → HostOf bytes job room a room
@@ -169,7 +169,7 @@ module _ (bytes : List ℕ) (job : ℕ) (room : List ℕ) where
         place = early .place;
         joined = 0;
         classes = classes;
-        answered = refused-first number (HostFault bytes job room) earlyOrder lateOrder a (early .place) (early .refused) (early .answered);
+        answered = refused-first hostNumber (HostFault bytes job room) earlyOrder lateOrder a (early .place) (early .refused) (early .answered);
         bound = λ z. absurd (early .refused z);
         refused = λ z. (refl, refl);
         room-left = room-untouched a (reportOf a (early .place) 0 classes) room (early-silent a (early .place) (early .refused) (early .answered));

@@ -29,8 +29,9 @@ use Rattle.jobfile.specs.Reader.{BodyOf}
 use Rattle.jobfile.specs.Body.{taken}
 use Rattle.jobfile.proofs.NumberLaws.{length-rowIn}
 use Rattle.jobfile.proofs.Theorems.{body-size, body-words, body-pairs}
-use Rattle.host.specs.Host.{entryOf, wordsOf, tableOf, listOf, jobOf, number, HostFault, earlyOrder, lateOrder, reportOf, writesNothing, HostOf}
-use Rattle.host.specs.Stages.{listRoom, Open, Roomy, Copyable, Lent}
+use Rattle.host.specs.Host.{entryOf, wordsOf, tableOf, listOf, jobOf, hostNumber, HostFault, earlyOrder, lateOrder, reportOf, writesNothing, HostOf}
+use Rattle.host.specs.Steps.Choice.{JobFound}
+use Rattle.host.specs.Steps.Rows.{listRoom, RowsFit, Copyable, RowsOfJob}
 use Rattle.host.proofs.ReportLaws.{room-reported}
 use Rattle.host.proofs.ChoiceLaws.{from-match, none-early}
 use Rattle.host.proofs.CutLaws.{long-lists}
@@ -77,7 +78,7 @@ sizes-pass bytes job allowed = (no-size, (no-room, tt))
     no-room : (p : ℕ) → Fault (jobOf bytes job) ROOM p → ⊥
     no-room p (room-fault x) = ⊎-elim (λ e. omega (arith, size)) (λ e. omega (arith, size)) x
 
-module _ {bytes : List ℕ} {job : ℕ} {table list class work room : List ℕ} (lent : Lent bytes job table list class work room) where
+module _ {bytes : List ℕ} {job : ℕ} {table list class work room : List ℕ} (lent : RowsOfJob bytes job table list class work room) where
   cutList : List ℕ
   cutList = take (length list) (listOf bytes job)
 
@@ -126,9 +127,9 @@ module _ {bytes : List ℕ} {job : ℕ} {table list class work room : List ℕ} 
       rest-answers matchNumber (Fault (jobOf bytes job)) sizeRows lateRows a p
       (sizes-pass bytes job (⊎-elim (λ e. omega (arith, e, lent .some-word)) (λ e. omega (arith, e, lent .few-words))))
 
-  host-answered : (a p : ℕ) → Answered matchNumber (Fault (jobOf bytes job)) matchOrder a p → Answered number (HostFault bytes job room) (earlyOrder ++ lateOrder) a p
+  host-answered : (a p : ℕ) → Answered matchNumber (Fault (jobOf bytes job)) matchOrder a p → Answered hostNumber (HostFault bytes job room) (earlyOrder ++ lateOrder) a p
   host-answered a p x =
-      none-first number (HostFault bytes job room) earlyOrder lateOrder a p
+      none-first hostNumber (HostFault bytes job room) earlyOrder lateOrder a p
       (none-early bytes job room (lent .copyable .good) (lent .copyable .some-job) (lent .copyable .inside) (lent .some-word) (lent .few-words) (lent .enough))
       (from-match bytes job room lateRows a p refl (late a p x))
 
@@ -190,8 +191,8 @@ module _ {bytes : List ℕ} {job : ℕ} {table list class work room : List ℕ} 
 -- ---- the rows that are lent
 
 -- the fronts of rows with room for it are just as long as it wants them, whatever the rows' own lengths
-pub lent-fronts : {bytes : List ℕ} {job n p entries : ℕ} (table list class work : List ℕ) {room : List ℕ} → Open bytes job n p (length room) → Roomy n table list class work
-    → (entries ≡ min (2 * p) (length list)) × (entries ≤ 2 * p) × (entries ≤ length list) → Lent bytes job (take n table) (take entries list) (take n class) (take (4 * n) work) room
+pub lent-fronts : {bytes : List ℕ} {job n p entries : ℕ} (table list class work : List ℕ) {room : List ℕ} → JobFound bytes job n p (length room) → RowsFit n table list class work
+    → (entries ≡ min (2 * p) (length list)) × (entries ≤ 2 * p) × (entries ≤ length list) → RowsOfJob bytes job (take n table) (take entries list) (take n class) (take (4 * n) work) room
 lent-fronts {p = p} {entries} table list class work o (tables, lists, classes, works) (e, there, inside) =
     let long : length (take entries list) ≡ entries = length-take-le entries list inside in
     record {

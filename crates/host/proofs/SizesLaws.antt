@@ -10,13 +10,13 @@ use lib.ListN.{length, drop}
 use Rattle.answering.specs.Answers.{Answered}
 use Rattle.answering.proofs.Orders.{passed-none, refused-first, none-first}
 use Rattle.jobfile.specs.File.{countIn, sizesIn, GoodFile}
-use Rattle.jobfile.specs.Faults.{Row, ROOM, FILE, CONTENTS, BODY, number, readOrder}
+use Rattle.jobfile.specs.Faults.{FileRow, ROOM, FILE, CONTENTS, BODY, fileNumber, readOrder}
 use Rattle.jobfile.specs.Reader.{numberOf, placeOf, Judged}
 use Rattle.jobfile.specs.declared.answers.FileAnswer.{FileAnswer}
 use Rattle.jobfile.proofs.ReaderLaws.{read-once, good-judged, judged-good, good-number}
 use Rattle.host.specs.Sizes.{SizesFault, SizesOf}
 
-pub sizes-once : (bytes sizes : List ℕ) (row : Row) (p q : ℕ) → SizesFault bytes sizes row p → SizesFault bytes sizes row q → p ≡ q
+pub sizes-once : (bytes sizes : List ℕ) (row : FileRow) (p q : ℕ) → SizesFault bytes sizes row p → SizesFault bytes sizes row q → p ≡ q
 sizes-once bytes sizes FILE p q a b = read-once FILE p q a b
 sizes-once bytes sizes CONTENTS p q a b = read-once CONTENTS p q a b
 sizes-once bytes sizes BODY p q a b = read-once BODY p q a b
@@ -29,7 +29,7 @@ sizes-refused {bytes} sizes answer judged e nonzero f = record {
   place = placeOf answer;
   jobs = 0;
   is = omega (arith, e, f);
-  answered = refused-first number (SizesFault bytes sizes) readOrder (ROOM ∷ []) (numberOf answer) (placeOf answer) (λ z. nonzero (e ∙ z)) judged;
+  answered = refused-first fileNumber (SizesFault bytes sizes) readOrder (ROOM ∷ []) (numberOf answer) (placeOf answer) (λ z. nonzero (e ∙ z)) judged;
   given = λ z. absurd (nonzero (e ∙ z));
   refused = λ z. (refl, refl);
 }
@@ -38,13 +38,13 @@ pub accepted-file : {bytes : List ℕ} (answer : FileAnswer) {n : ℕ} → Judge
 accepted-file {bytes} answer judged e z = judged-good (subst (Judged bytes) (good-number answer (sym e ∙ z)) judged)
 
 module _ {bytes : List ℕ} (sizes : List ℕ) (good : GoodFile bytes) {jobs : ℕ} (counted : jobs ≡ countIn bytes) where
-  after-file : (a p : ℕ) → Answered number (SizesFault bytes sizes) (ROOM ∷ []) a p → Answered number (SizesFault bytes sizes) (readOrder ++ (ROOM ∷ [])) a p
-  unfolding number
+  after-file : (a p : ℕ) → Answered fileNumber (SizesFault bytes sizes) (ROOM ∷ []) a p → Answered fileNumber (SizesFault bytes sizes) (readOrder ++ (ROOM ∷ [])) a p
+  unfolding fileNumber
   after-file a p later =
-      none-first number (SizesFault bytes sizes) readOrder (ROOM ∷ []) a p (passed-none number (SizesFault bytes sizes) readOrder 0 0 refl refl (good-judged good) .0) later
+      none-first fileNumber (SizesFault bytes sizes) readOrder (ROOM ∷ []) a p (passed-none fileNumber (SizesFault bytes sizes) readOrder 0 0 refl refl (good-judged good) .0) later
 
   pub sizes-short : length sizes < 2 * jobs → SizesOf bytes sizes 2 sizes
-  unfolding number
+  unfolding fileNumber
   sizes-short short = record {
     answer = 2;
     place = 0;

@@ -15,7 +15,7 @@ use Rattle.answering.specs.Answers.{Answered}
 use Rattle.table.specs.Faults.{Job, sent, Row as MatchRow, Fault, number as matchNumber, tableRows, listRows, pairRows}
 use Rattle.jobfile.specs.Numbers.{bytesOfRow, rowIn}
 use Rattle.jobfile.specs.File.{countIn, wordsIn, pairsIn, bodyIn}
-use Rattle.jobfile.specs.Faults.{Row as FileRow, ReadFault, number as fileNumber, readOrder}
+use Rattle.jobfile.specs.Faults.{FileRow, ReadFault, fileNumber, readOrder}
 
 -- ---- the job of a number
 
@@ -41,20 +41,20 @@ jobOf bytes job = sent (tableOf bytes job) (listOf bytes job) (wordsOf bytes job
 
 -- ---- the answer
 
-pub data Row : Type 0 where
-  of-file : FileRow → Row
-  JOB SIZE ROOM : Row
-  of-match : MatchRow → Row
+pub data HostRow : Type 0 where
+  of-file : FileRow → HostRow
+  JOB SIZE ROOM : HostRow
+  of-match : MatchRow → HostRow
 
-unfoldable pub number : Row → ℕ
-number (of-file row) = fileNumber row
-number JOB = 15
-number SIZE = 1
-number ROOM = 2
-number (of-match row) = matchNumber row
+unfoldable pub hostNumber : HostRow → ℕ
+hostNumber (of-file row) = fileNumber row
+hostNumber JOB = 15
+hostNumber SIZE = 1
+hostNumber ROOM = 2
+hostNumber (of-match row) = matchNumber row
 
 -- A row applies to a call, at a place.
-pub data HostFault (bytes : List ℕ) (job : ℕ) (room : List ℕ) : Row → ℕ → Type 0 where
+pub data HostFault (bytes : List ℕ) (job : ℕ) (room : List ℕ) : HostRow → ℕ → Type 0 where
   -- 12, 13 and 14 are the reader's
   file-fault : {row : FileRow} {p : ℕ} → ReadFault bytes row p → HostFault bytes job room (of-file row) p
   -- "15 JOB if the number is not 1 to J"
@@ -67,16 +67,16 @@ pub data HostFault (bytes : List ℕ) (job : ℕ) (room : List ℕ) : Row → �
   match-fault : {row : MatchRow} {p : ℕ} → Fault (jobOf bytes job) row p → HostFault bytes job room (of-match row) p
 
 -- "Order: 12, 13, 14; 15 ..; 1; 2 .." and then 3 to 11
-abbrev pub callRows : List Row
+abbrev pub callRows : List HostRow
 callRows = JOB ∷ SIZE ∷ ROOM ∷ []
 
-abbrev pub earlyOrder : List Row
+abbrev pub earlyOrder : List HostRow
 earlyOrder = map of-file readOrder ++ callRows
 
-abbrev pub lateOrder : List Row
+abbrev pub lateOrder : List HostRow
 lateOrder = map of-match (tableRows ++ listRows ++ pairRows)
 
-abbrev pub hostOrder : List Row
+abbrev pub hostOrder : List HostRow
 hostOrder = earlyOrder ++ lateOrder
 
 -- ---- the room
@@ -96,7 +96,7 @@ roomAfter answer report room = cond (writesNothing answer) room (report ++ drop 
 -- ---- the call
 
 -- for answer 0, the class table of the job, and its joins
-pub record Bound (bytes : List ℕ) (job joined : ℕ) (classes : List ℕ) : Type 0 where
+pub record JobAcceptedWith (bytes : List ℕ) (job joined : ℕ) (classes : List ℕ) : Type 0 where
   pub class-table : ClassTable (graphOf (tableOf bytes job)) (pairsOf (listOf bytes job)) classes
   pub joins-counted : joined ≡ joins (graphOf (tableOf bytes job)) classes
 
@@ -105,8 +105,8 @@ pub record HostOf (bytes : List ℕ) (job : ℕ) (room : List ℕ) (answer : ℕ
   pub place : ℕ
   pub joined : ℕ
   pub classes : List ℕ
-  pub answered : Answered number (HostFault bytes job room) hostOrder answer place
-  pub bound : answer ≡ 0 → Bound bytes job joined classes
+  pub answered : Answered hostNumber (HostFault bytes job room) hostOrder answer place
+  pub bound : answer ≡ 0 → JobAcceptedWith bytes job joined classes
   -- "zeros if refused"
   pub refused : (answer ≡ 0 → ⊥) → (joined ≡ 0) × (classes ≡ replicate (wordsOf bytes job) 0)
   pub room-left : room-after ≡ roomAfter answer (reportOf answer place joined classes) room

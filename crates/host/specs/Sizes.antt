@@ -6,11 +6,11 @@ use Prim.Native.Nat.{ℕ, _*_, _<_}
 use lib.ListN.{length, drop}
 use Rattle.answering.specs.Answers.{Answered}
 use Rattle.jobfile.specs.File.{countIn, sizesIn}
-use Rattle.jobfile.specs.Faults.{Row, ROOM, FILE, CONTENTS, BODY, number, ReadFault, readOrder}
+use Rattle.jobfile.specs.Faults.{FileRow, ROOM, FILE, CONTENTS, BODY, fileNumber, ReadFault, readOrder}
 use Rattle.host.specs.AsOne.{asOne}
 
 -- A row applies to a call, at a place: 12, 13 and 14 as to the reader, and "2 if there is room for fewer than 2J sizes".
-abbrev pub SizesFault : List ℕ → List ℕ → Row → ℕ → Type 0
+abbrev pub SizesFault : List ℕ → List ℕ → FileRow → ℕ → Type 0
 SizesFault bytes sizes FILE p = ReadFault bytes FILE p
 SizesFault bytes sizes CONTENTS p = ReadFault bytes CONTENTS p
 SizesFault bytes sizes BODY p = ReadFault bytes BODY p
@@ -23,7 +23,7 @@ pub record SizesOf (bytes sizes : List ℕ) (r : ℕ) (sizes-after : List ℕ) :
   pub jobs : ℕ
   pub is : r ≡ asOne answer place jobs
   -- "12, 13 and 14 .. then 2"
-  pub answered : Answered number (SizesFault bytes sizes) (readOrder ++ (ROOM ∷ [])) answer place
+  pub answered : Answered fileNumber (SizesFault bytes sizes) (readOrder ++ (ROOM ∷ [])) answer place
   -- "On 0 the first 2J entries are n, p, n, p, ..; later entries stay"
   pub given : answer ≡ 0 → (jobs ≡ countIn bytes) × (sizes-after ≡ sizesIn bytes ++ drop (2 * countIn bytes) sizes)
   -- "J is 0 on refusal", and "a refusal writes nothing"

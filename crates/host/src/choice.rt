@@ -3,7 +3,7 @@ ghost use mathlib.Core.Path.{_≡_};
 ghost use Prim.Native.Nat.{_*_, _≤_, _<_};
 ghost use lib.ListN.{length, getD};
 ghost use Rattle.words.specs.Limits.{mostSizes};
-ghost use Rattle.host.specs.Stages.{Sized, Numbered, Choice};
+ghost use Rattle.host.specs.Steps.Choice.{Sized, Numbered, Choice};
 use jobfile::answers;
 use words::limits::MOST_WORDS;
 

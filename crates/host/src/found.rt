@@ -5,7 +5,8 @@ ghost use Prim.Native.Nat.{_≤_, min};
 ghost use lib.ListN.{length};
 ghost use Rattle.words.specs.Limits.{mostWords};
 ghost use Rattle.host.specs.Host.{HostOf};
-ghost use Rattle.host.specs.Stages.{listRoom, smallRow, middleRow, Open, Roomy};
+ghost use Rattle.host.specs.Steps.Choice.{JobFound};
+ghost use Rattle.host.specs.Steps.Rows.{listRoom, smallRow, middleRow, RowsFit};
 use crate::job;
 use words::limits::MOST_WORDS;
 
@@ -33,7 +34,7 @@ fn match_in(
     work: &mut [u16],
     room: &mut [u8],
 ) -> u16
-    requires { ⌜ Open (now file) job n p (length (now room)) × Roomy n (now table) (now list) (now class) (now work) ⌝ }
+    requires { ⌜ JobFound (now file) job n p (length (now room)) × RowsFit n (now table) (now list) (now class) (now work) ⌝ }
     ensures { λ r. ⌜ HostOf (now (file .entry)) job (now (room .entry)) r (now (room .exit)) ⌝ }
 {
     let entries = least(2 * p, list.len());
@@ -56,7 +57,7 @@ fn match_small(
     list: &mut [u16],
     room: &mut [u8],
 ) -> u16
-    requires { ⌜ Open (now file) job n p (length (now room)) × (length (now list) ≡ listRoom) × (n ≤ smallRow) ⌝ }
+    requires { ⌜ JobFound (now file) job n p (length (now room)) × (length (now list) ≡ listRoom) × (n ≤ smallRow) ⌝ }
     ensures { λ r. ⌜ HostOf (now (file .entry)) job (now (room .entry)) r (now (room .exit)) ⌝ }
 {
     let mut table = [0u32; SMALL];
@@ -83,7 +84,7 @@ fn match_middle(
     list: &mut [u16],
     room: &mut [u8],
 ) -> u16
-    requires { ⌜ Open (now file) job n p (length (now room)) × (length (now list) ≡ listRoom) × (n ≤ middleRow) ⌝ }
+    requires { ⌜ JobFound (now file) job n p (length (now room)) × (length (now list) ≡ listRoom) × (n ≤ middleRow) ⌝ }
     ensures { λ r. ⌜ HostOf (now (file .entry)) job (now (room .entry)) r (now (room .exit)) ⌝ }
 {
     let mut table = [0u32; MIDDLE];
@@ -110,7 +111,7 @@ fn match_large(
     list: &mut [u16],
     room: &mut [u8],
 ) -> u16
-    requires { ⌜ Open (now file) job n p (length (now room)) × (length (now list) ≡ listRoom) × (n ≤ mostWords) ⌝ }
+    requires { ⌜ JobFound (now file) job n p (length (now room)) × (length (now list) ≡ listRoom) × (n ≤ mostWords) ⌝ }
     ensures { λ r. ⌜ HostOf (now (file .entry)) job (now (room .entry)) r (now (room .exit)) ⌝ }
 {
     let mut table = [0u32; MOST_WORDS];
@@ -138,7 +139,7 @@ pub(crate) fn match_found(
     list: &mut [u16],
     room: &mut [u8],
 ) -> u16
-    requires { ⌜ Open (now file) job n p (length (now room)) × (length (now list) ≡ listRoom) ⌝ }
+    requires { ⌜ JobFound (now file) job n p (length (now room)) × (length (now list) ≡ listRoom) ⌝ }
     ensures { λ r. ⌜ HostOf (now (file .entry)) job (now (room .entry)) r (now (room .exit)) ⌝ }
 {
     if n <= SMALL {

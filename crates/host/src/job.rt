@@ -3,7 +3,7 @@
 ghost use mathlib.Core.Path.{_≡_};
 ghost use lib.ListN.{length, take};
 ghost use Rattle.host.specs.Host.{tableOf, listOf, HostOf};
-ghost use Rattle.host.specs.Stages.{Copyable, Lent};
+ghost use Rattle.host.specs.Steps.Rows.{Copyable, RowsOfJob};
 use crate::report;
 
 // Copies the job's words into table, and its addresses into list, as many as have room.
@@ -27,7 +27,7 @@ pub(crate) fn match_lent(
     work: &mut [u16],
     room: &mut [u8],
 ) -> u16
-    requires { ⌜ Lent (now file) job (now table) (now list) (now class) (now work) (now room) ⌝ }
+    requires { ⌜ RowsOfJob (now file) job (now table) (now list) (now class) (now work) (now room) ⌝ }
     ensures { λ r. ⌜ HostOf (now (file .entry)) job (now (room .entry)) r (now (room .exit)) ⌝ }
 {
     copy_job(file, job, table, list);

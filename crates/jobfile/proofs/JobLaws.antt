@@ -13,7 +13,7 @@ use native.Mathlib.Omega.{arith}
 use lib.ListN.{length, take, drop, getD, length-append}
 use lib.Seq.{take-nil, take-take, drop-drop, drop-at}
 use Rattle.graphs.specs.Partition.{Pair, pairsOf}
-use Rattle.rows.specs.LittleEndian.{number}
+use Rattle.rows.specs.LittleEndian.{fromBytes}
 use Rattle.jobfile.specs.Numbers.{bytesOfRow, rowIn, AllBelow}
 use Rattle.jobfile.specs.File.{bodySize, wordsIn, pairsIn, bodyStart, sizesFrom, bodiesSize}
 use Rattle.jobfile.specs.Jobs.{FileJob, entriesOf, sizesOf, bodyOf, bodiesOf, AllFit, jobIn, jobsFrom}
@@ -105,7 +105,7 @@ row-in-front k (suc m) j bytes h =
     let first : k ≤ j = omega (arith, mul-suc k m) in
     let rest : k * m ≤ j - k = omega (arith, mul-suc k m) in
     ap₂ (λ (x : ℕ) (l : List ℕ). x ∷ l)
-    (ap number (take-take k j bytes first))
+    (ap fromBytes (take-take k j bytes first))
     (ap (rowIn k m) (drop-take k j bytes) ∙ row-in-front k m (j - k) (drop k bytes) rest)
 
 -- the first numbers of a row are the row of the first numbers
@@ -113,7 +113,7 @@ pub row-front : (k j m : ℕ) (bytes : List ℕ) → j ≤ m → rowIn k j bytes
 unfolding rowIn
 row-front k zero m bytes h = refl
 row-front k (suc j) zero bytes h = absurd (omega arith)
-row-front k (suc j) (suc m) bytes h = ap (λ (l : List ℕ). number (take k bytes) ∷ l) (row-front k j m (drop k bytes) (omega arith))
+row-front k (suc j) (suc m) bytes h = ap (λ (l : List ℕ). fromBytes (take k bytes) ∷ l) (row-front k j m (drop k bytes) (omega arith))
 
 -- job j of the entries from entry k on stands where the contents say
 pub job-there : (m k j : ℕ) (bytes : List ℕ) (d : FileJob) → j < m

@@ -13,7 +13,7 @@ use native.Mathlib.Omega.{arith}
 use mathlib.Core.List.{List, [], _∷_, _++_, append-assoc}
 use lib.ListN.{length, take, drop, getD, length-append, length-take, length-drop, take-append-drop, List·getD-eq-default}
 use lib.Seq.{take-all, take-at, drop-at, drop-drop, getD-drop, getD-take, length-take-le}
-use Rattle.rows.specs.LittleEndian.{number, bytesOf, numberAt, AllBytes}
+use Rattle.rows.specs.LittleEndian.{fromBytes, bytesOf, numberAt, AllBytes}
 use Rattle.rows.proofs.Laws.{length-bytesOf, number-bytesOf, bytesOf-number}
 use Rattle.jobfile.specs.Numbers.{bytesOfRow, rowIn, AllBelow}
 
@@ -28,7 +28,7 @@ to-the-end at row = take-all (length row - at) (drop at row) (simp length-drop (
 module _ (k x at : ℕ) (bytes rest : List ℕ) (here : drop at bytes ≡ bytesOf k x ++ rest) where
   pub number-there : x < 256 ^ k → numberAt k at bytes ≡ x
   unfolding numberAt
-  number-there below = ap (λ (l : List ℕ). number (take k l)) here ∙ ap number (take-at (bytesOf k x) rest k (length-bytesOf k x)) ∙ number-bytesOf k x below
+  number-there below = ap (λ (l : List ℕ). fromBytes (take k l)) here ∙ ap fromBytes (take-at (bytesOf k x) rest k (length-bytesOf k x)) ∙ number-bytesOf k x below
 
   pub rest-there : drop (at + k) bytes ≡ rest
   rest-there = sym (drop-drop k at bytes) ∙ ap (drop k) here ∙ drop-at (bytesOf k x) rest k (length-bytesOf k x)
@@ -49,7 +49,7 @@ unfolding numberAt
 bytes-there k at bytes all inside =
     let part : List ℕ = take k (drop at bytes) in
     let size : length part ≡ k = length-take-le k (drop at bytes) (simp length-drop (omega arith)) in
-    ap (λ (m : ℕ). bytesOf m (number part) ++ drop (at + k) bytes) (sym size)
+    ap (λ (m : ℕ). bytesOf m (fromBytes part) ++ drop (at + k) bytes) (sym size)
     ∙ ap (λ (l : List ℕ). l ++ drop (at + k) bytes) (bytesOf-number part (all-bytes-part k at bytes all))
     ∙ ap (λ (l : List ℕ). part ++ l) (sym (drop-drop k at bytes))
     ∙ take-append-drop k (drop at bytes)
@@ -67,7 +67,7 @@ unfolding bytesOfRow rowIn
 row-read-back k [] rest below = refl
 row-read-back k (x ∷ xs) rest below =
     let size : length (bytesOf k x) ≡ k = length-bytesOf k x in
-    let first : number (bytesOf k x) ≡ x = number-bytesOf k x (below 0) in
+    let first : fromBytes (bytesOf k x) ≡ x = number-bytesOf k x (below 0) in
     let later : rowIn k (length xs) (bytesOfRow k xs ++ rest) ≡ xs = row-read-back k xs rest (λ i. below (suc i)) in
     rw (append-assoc, take-at (bytesOf k x) (bytesOfRow k xs ++ rest) k size, drop-at (bytesOf k x) (bytesOfRow k xs ++ rest) k size, first, later)
 
@@ -80,9 +80,9 @@ length-rowIn k (suc m) bytes = ap suc (length-rowIn k m (drop k bytes))
 pub entry-rowIn : (k m i : ℕ) (bytes : List ℕ) → i < m → getD (rowIn k m bytes) i 0 ≡ numberAt k (k * i) bytes
 unfolding rowIn numberAt
 entry-rowIn k zero i bytes h = absurd (omega arith)
-entry-rowIn k (suc m) zero bytes h = ap (λ (at : ℕ). number (take k (drop at bytes))) (sym (mul-zero k))
+entry-rowIn k (suc m) zero bytes h = ap (λ (at : ℕ). fromBytes (take k (drop at bytes))) (sym (mul-zero k))
 entry-rowIn k (suc m) (suc i) bytes h =
     let way : k + k * i ≡ k * suc i = omega (arith, mul-suc k i) in
     entry-rowIn k m i (drop k bytes) (omega arith)
-    ∙ ap (λ (l : List ℕ). number (take k l)) (drop-drop (k * i) k bytes)
-    ∙ ap (λ (at : ℕ). number (take k (drop at bytes))) way
+    ∙ ap (λ (l : List ℕ). fromBytes (take k l)) (drop-drop (k * i) k bytes)
+    ∙ ap (λ (at : ℕ). fromBytes (take k (drop at bytes))) way

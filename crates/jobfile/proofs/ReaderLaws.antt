@@ -24,8 +24,9 @@ use Rattle.answering.specs.Answers.{Lowest}
 use Rattle.answering.proofs.LowestLaws.{lowest-only}
 use Rattle.answering.proofs.Orders.{answered-only, passed-none}
 use Rattle.jobfile.specs.File.{bodySize, contentsEnd, countIn, offsetIn, wordsIn, pairsIn, bodyStart, GoodFile}
-use Rattle.jobfile.specs.Faults.{Row, FILE, CONTENTS, BODY, number, BodyFault, wrong-offset, past-end, bytes-follow, ReadFault, file-fault, contents-fault, body-fault, readOrder}
-use Rattle.jobfile.specs.Reader.{numberOf, placeOf, Judged, yieldedSizes, yieldedBodies, yieldedBody, inRow, Holds, ReadOf, BodiesOf, BodyOf, passes, Opened, BodiesJudged}
+use Rattle.jobfile.specs.Faults.{FileRow, FILE, CONTENTS, BODY, fileNumber, BodyFault, wrong-offset, past-end, bytes-follow, ReadFault, file-fault, contents-fault, body-fault, readOrder}
+use Rattle.jobfile.specs.Reader.{numberOf, placeOf, Judged, yieldedSizes, yieldedBodies, yieldedBody, inRow, Holds, ReadOf, BodiesOf, BodyOf}
+use Rattle.jobfile.specs.Steps.Reading.{passes, Opened, BodiesJudged}
 use Rattle.jobfile.specs.declared.answers.FileAnswer.{FileAnswer}
 use Rattle.jobfile.specs.declared.answers.FileAnswer.the-variants.{Good, File, Contents, Body}
 use Rattle.jobfile.specs.declared.sizes.Sizes.{Sizes}
@@ -39,20 +40,20 @@ pub record Fine (bytes : List ℕ) (j : ℕ) : Type 0 where
   pub inside : bodyStart bytes (suc j) ≤ length bytes
 
 -- the entries below k are fine, and the next body starts at `start`
-pub record Walked (bytes : List ℕ) (k start : ℕ) : Type 0 where
+pub record EntriesWalked (bytes : List ℕ) (k start : ℕ) : Type 0 where
   pub here : start ≡ bodyStart bytes k
   pub within : start ≤ length bytes
   pub below : k ≤ countIn bytes
   pub fine : (j : ℕ) → j < k → Fine bytes j
 
-pub walked-none : {bytes : List ℕ} {jobs : ℕ} → Opened bytes jobs → Walked bytes 0 (2 + 6 * jobs)
+pub walked-none : {bytes : List ℕ} {jobs : ℕ} → Opened bytes jobs → EntriesWalked bytes 0 (2 + 6 * jobs)
 unfolding bodyStart
 walked-none opened =
     record { here = omega (arith, opened .counted); within = omega (arith, opened .counted, opened .contents-inside); below = omega arith; fine = λ j h. absurd (omega arith) }
 
-module _ {bytes : List ℕ} {k start : ℕ} (walked : Walked bytes k start) where
+module _ {bytes : List ℕ} {k start : ℕ} (walked : EntriesWalked bytes k start) where
   pub walked-more : {size : ℕ} → k < countIn bytes → offsetIn bytes k ≡ start → size ≡ bodySize (wordsIn bytes k) (pairsIn bytes k) → start + size ≤ length bytes
-      → Walked bytes (k + 1) (start + size)
+      → EntriesWalked bytes (k + 1) (start + size)
   walked-more {size} h right e inside =
       let next : start + size ≡ bodyStart bytes (suc k) = ap (λ (x : ℕ). start + x) e ∙ next-start bytes k (walked .here) refl refl in
       record {
@@ -82,15 +83,15 @@ module _ {bytes : List ℕ} {k start : ℕ} (walked : Walked bytes k start) wher
   lowest-follow h over = record { has = bytes-follow (omega (arith, all-walked h)); none-below = λ p l. none-before p (omega arith) }
 
   pub bodies-wrong : k < countIn bytes → (offsetIn bytes k ≡ start → ⊥) → BodiesJudged bytes (Body (record { 0 = k + 1 }))
-  unfolding number
+  unfolding fileNumber
   bodies-wrong h other = inl (refl, body-fault (lowest-wrong h other))
 
   pub bodies-past : {size : ℕ} → k < countIn bytes → size ≡ bodySize (wordsIn bytes k) (pairsIn bytes k) → length bytes < start + size → BodiesJudged bytes (Body (record { 0 = k + 1 }))
-  unfolding number
+  unfolding fileNumber
   bodies-past h e over = inl (refl, body-fault (lowest-past h e over))
 
   pub bodies-follow : {jobs : ℕ} → jobs ≡ countIn bytes → countIn bytes ≤ k → start < length bytes → BodiesJudged bytes (Body (record { 0 = jobs + 1 }))
-  unfolding number
+  unfolding fileNumber
   bodies-follow {jobs} e h over = inl (refl, body-fault {p = jobs + 1} (rw e (lowest-follow h over)))
 
   no-body : countIn bytes ≤ k → length bytes ≤ start → (p : ℕ) → BodyFault bytes p → ⊥
@@ -108,7 +109,7 @@ module _ {bytes : List ℕ} {k start : ℕ} (walked : Walked bytes k start) wher
 
 module _ {bytes : List ℕ} where
   pub judged-file : (length bytes < 2) ⊎ (mostBytes < length bytes) → Judged bytes File
-  unfolding number
+  unfolding fileNumber
   judged-file why = inl (refl, file-fault why)
 
   no-file : 2 ≤ length bytes → length bytes ≤ mostBytes → (p : ℕ) → ReadFault bytes FILE p → ⊥
@@ -121,7 +122,7 @@ module _ {bytes : List ℕ} where
   no-contents some-job few-jobs inside p (contents-fault (inr (inr over))) = omega arith
 
   pub judged-contents : 2 ≤ length bytes → length bytes ≤ mostBytes → (countIn bytes ≡ 0) ⊎ ((mostJobs < countIn bytes) ⊎ (length bytes < contentsEnd (countIn bytes))) → Judged bytes Contents
-  unfolding number
+  unfolding fileNumber
   judged-contents least most why = inr (no-file least most, inl (refl, contents-fault why))
 
   pub judged-bodies : {jobs : ℕ} (answer : FileAnswer) → Opened bytes jobs → BodiesJudged bytes answer → Judged bytes answer
@@ -129,7 +130,7 @@ module _ {bytes : List ℕ} where
 
 -- ---- one answer
 
-pub read-once : {bytes : List ℕ} (row : Row) (p q : ℕ) → ReadFault bytes row p → ReadFault bytes row q → p ≡ q
+pub read-once : {bytes : List ℕ} (row : FileRow) (p q : ℕ) → ReadFault bytes row p → ReadFault bytes row q → p ≡ q
 read-once row p q (file-fault a) (file-fault b) = refl
 read-once row p q (contents-fault a) (contents-fault b) = refl
 read-once row p q (body-fault a) (body-fault b) = lowest-only a b
@@ -153,7 +154,7 @@ answer-by-numbers (Body entry) = refl
 pub judged-only : {bytes : List ℕ} (r s : FileAnswer) → Judged bytes r → Judged bytes s → r ≡ s
 judged-only {bytes} r s a b =
     let same : (numberOf r ≡ numberOf s) × (placeOf r ≡ placeOf s) =
-    answered-only number (ReadFault bytes) read-once readOrder (numberOf r) (placeOf r) (numberOf s) (placeOf s) a b in
+    answered-only fileNumber (ReadFault bytes) read-once readOrder (numberOf r) (placeOf r) (numberOf s) (placeOf s) a b in
     sym (answer-by-numbers r) ∙ ap₂ answerWith (same .0) (same .1) ∙ answer-by-numbers s
 
 holds-only : {xs ys : List ℕ} {a b : Sizes} → xs ≡ ys → Holds a xs → Holds b ys → a ≡ b
@@ -205,19 +206,19 @@ good-judged {bytes} good = inr (no-file (good .at-least) (good .at-most), inr (n
 
 -- Where no fault is the lowest, every entry is fine.
 module _ {bytes : List ℕ} {jobs : ℕ} (opened : Opened bytes jobs) (none-lowest : (p : ℕ) → Lowest (BodyFault bytes) p → ⊥) where
-  walk-all : (k : ℕ) → k ≤ countIn bytes → Walked bytes k (bodyStart bytes k)
+  walk-all : (k : ℕ) → k ≤ countIn bytes → EntriesWalked bytes k (bodyStart bytes k)
   unfolding bodyStart
-  walk-all zero h = subst (Walked bytes 0) (walked-none opened .here) (walked-none opened)
+  walk-all zero h = subst (EntriesWalked bytes 0) (walked-none opened .here) (walked-none opened)
   walk-all (suc k) h = go (walk-all k (omega arith)) (ℕ-discrete (offsetIn bytes k) (bodyStart bytes k)) (decLe (bodyStart bytes (suc k)) (length bytes))
     where
-      go : Walked bytes k (bodyStart bytes k) → Dec (offsetIn bytes k ≡ bodyStart bytes k) → Dec (bodyStart bytes (suc k) ≤ length bytes) → Walked bytes (suc k) (bodyStart bytes (suc k))
-      go w (yes right) (yes inside) = subst (λ (i : ℕ). Walked bytes i (bodyStart bytes (suc k))) (add-one k) (walked-more w (omega arith) right refl inside)
+      go : EntriesWalked bytes k (bodyStart bytes k) → Dec (offsetIn bytes k ≡ bodyStart bytes k) → Dec (bodyStart bytes (suc k) ≤ length bytes) → EntriesWalked bytes (suc k) (bodyStart bytes (suc k))
+      go w (yes right) (yes inside) = subst (λ (i : ℕ). EntriesWalked bytes i (bodyStart bytes (suc k))) (add-one k) (walked-more w (omega arith) right refl inside)
       go w (yes right) (no over) = absurd (none-lowest (k + 1) (lowest-past w (omega arith) refl (omega arith)))
       go w (no other) d = absurd (none-lowest (k + 1) (lowest-wrong w (omega arith) other))
 
   all-good : GoodFile bytes
   all-good =
-      let w : Walked bytes (countIn bytes) (bodyStart bytes (countIn bytes)) = walk-all (countIn bytes) (omega arith) in
+      let w : EntriesWalked bytes (countIn bytes) (bodyStart bytes (countIn bytes)) = walk-all (countIn bytes) (omega arith) in
       record {
         at-least = opened .at-least;
         at-most = opened .at-most;
@@ -228,7 +229,7 @@ module _ {bytes : List ℕ} {jobs : ℕ} (opened : Opened bytes jobs) (none-lowe
         ends = last w (decLt (bodyStart bytes (countIn bytes)) (length bytes));
       }
     where
-      last : Walked bytes (countIn bytes) (bodyStart bytes (countIn bytes)) → Dec (bodyStart bytes (countIn bytes) < length bytes) → bodyStart bytes (countIn bytes) ≡ length bytes
+      last : EntriesWalked bytes (countIn bytes) (bodyStart bytes (countIn bytes)) → Dec (bodyStart bytes (countIn bytes) < length bytes) → bodyStart bytes (countIn bytes) ≡ length bytes
       last w (yes follow) = absurd (none-lowest (countIn bytes + 1) (lowest-follow w (omega arith) follow))
       last w (no end) = omega (arith, w .within)
 
@@ -251,9 +252,9 @@ module _ {bytes : List ℕ} where
       go (no l) c d = absurd (none-applies 0 (contents-fault (inl (omega arith))))
 
   pub judged-good : Judged bytes Good → GoodFile bytes
-  unfolding number
+  unfolding fileNumber
   judged-good judged =
-      let rows = passed-none number (ReadFault bytes) readOrder 0 0 refl refl judged .0 in
+      let rows = passed-none fileNumber (ReadFault bytes) readOrder 0 0 refl refl judged .0 in
       all-good (not-contents (not-file (rows .0)) (rows .1 .0)) (λ p lowest. rows .1 .1 .0 p (body-fault lowest))
 
 is-good : (r : FileAnswer) → passes r ≡ true → r ≡ Good

@@ -25,7 +25,7 @@ use Rattle.jobfile.specs.Numbers.{rowIn}
 use Rattle.jobfile.specs.File.{bodySize, countIn, wordsIn, pairsIn, bodyStart, bodyIn, sizesIn, bodiesIn, GoodFile, fileOf}
 use Rattle.jobfile.specs.Jobs.{FileJob, sizesOf, bodiesOf, fileOfJobs, Holdable, jobIn, jobsFrom, jobsIn}
 use Rattle.jobfile.specs.Reader.{Judged, yieldedSizes, yieldedBodies, numberedBody, yieldedBody, inRow, Holds, ReadOf, BodiesOf, BodyOf}
-use Rattle.jobfile.specs.Writer.{WriteOf, left}
+use Rattle.jobfile.specs.Writer.{WriteOf, roomWritten}
 use Rattle.jobfile.specs.Body.{taken}
 use Rattle.jobfile.specs.declared.answers.FileAnswer.{FileAnswer}
 use Rattle.jobfile.specs.declared.answers.FileAnswer.the-variants.{Good, File, Contents, Body}
@@ -78,7 +78,7 @@ pub writer-writes-good : {sizes bodies room after : List ℕ} → WriteOf sizes 
     × (after ≡ fileOf sizes bodies ++ drop (length (fileOf sizes bodies)) room)
     × (sizesIn (fileOf sizes bodies) ≡ sizes)
     × (bodiesIn (fileOf sizes bodies) ≡ bodies)
-unfolding left
+unfolding roomWritten
 writer-writes-good r = let w = written-writable r in (written-good w, r .room-left, written-sizes w, written-bodies w)
 
 -- ---- a file read and written again

@@ -16,8 +16,9 @@ use Rattle.rows.proofs.Laws.{behind-stays}
 use Rattle.words.specs.Limits.{mostBytes, mostJobs}
 use Rattle.answering.proofs.Orders.{answered-only, passed-none}
 use Rattle.jobfile.specs.File.{contentsEnd, jobCount, bodiesSize, fileOf}
-use Rattle.jobfile.specs.Faults.{Row, CONTENTS, BODY, FILE, ROOM, number, WriteFault, contents-refused, body-refused, file-refused, room-refused, writeOrder}
-use Rattle.jobfile.specs.Writer.{numberOf, placeOf, left, WriteOf, frontOf, Fitted}
+use Rattle.jobfile.specs.Faults.{FileRow, CONTENTS, BODY, FILE, ROOM, fileNumber, WriteFault, contents-refused, body-refused, file-refused, room-refused, writeOrder}
+use Rattle.jobfile.specs.Writer.{numberOf, placeOf, roomWritten, WriteOf}
+use Rattle.jobfile.specs.Steps.Writing.{frontOf, Fitted}
 use Rattle.jobfile.specs.declared.answers.WriteAnswer.{WriteAnswer}
 use Rattle.jobfile.specs.declared.answers.WriteAnswer.the-variants.{Written, Contents, Body, File, Room}
 use Rattle.jobfile.proofs.FileLaws.{length-fileOf}
@@ -46,11 +47,11 @@ module _ (sizes bodies room : List ℕ) where
   no-room h p (room-refused short) = omega arith
 
   pub write-contents : (length sizes % 2 ≡ 1) ⊎ ((jobCount sizes ≡ 0) ⊎ (mostJobs < jobCount sizes)) → WriteOf sizes bodies room Contents room
-  unfolding number left
+  unfolding fileNumber roomWritten
   write-contents why = record { answered = inl (refl, contents-refused why); room-left = refl }
 
   pub write-body : Allowed sizes → (length bodies ≡ bodiesSize sizes → ⊥) → WriteOf sizes bodies room Body room
-  unfolding number left
+  unfolding fileNumber roomWritten
   write-body ok other = record { answered = inr (no-contents ok, inl (refl, body-refused other)); room-left = refl }
 
   module _ (ok : Allowed sizes) (sum : length bodies ≡ bodiesSize sizes) where
@@ -58,12 +59,12 @@ module _ (sizes bodies room : List ℕ) where
     file-size = length-fileOf sizes bodies (ok .even)
 
     pub write-file : mostBytes < contentsEnd (jobCount sizes) + length bodies → WriteOf sizes bodies room File room
-    unfolding number left
+    unfolding fileNumber roomWritten
     write-file over = record { answered = inr (no-contents ok, inr (no-body sum, inl (refl, file-refused (omega (arith, file-size))))); room-left = refl }
 
     module _ (within : contentsEnd (jobCount sizes) + length bodies ≤ mostBytes) where
       pub write-room : length room < contentsEnd (jobCount sizes) + length bodies → WriteOf sizes bodies room Room room
-      unfolding number left
+      unfolding fileNumber roomWritten
       write-room short =
           record {
             answered = inr (no-contents ok, inr (no-body sum, inr (no-file (omega (arith, file-size)), inl (refl, room-refused (omega (arith, file-size))))));
@@ -77,7 +78,7 @@ module _ (sizes bodies room : List ℕ) where
         -- the contents, and behind them the bodies, are the file
         pub write-all : {between after : List ℕ} → between ≡ frontOf sizes ++ drop (length (frontOf sizes)) room → after ≡ placed (contentsEnd (jobCount sizes)) bodies between
             → WriteOf sizes bodies room Written after
-        unfolding left placed fileOf
+        unfolding roomWritten placed fileOf
         write-all {between} {after} first second =
             let start : ℕ = contentsEnd (jobCount sizes) in
             let front : length (frontOf sizes) ≡ start = length-frontOf sizes (fitted .even) in
@@ -97,9 +98,9 @@ module _ (sizes bodies room : List ℕ) where
 
 -- what the writer writes, no row refuses
 pub written-writable : {sizes bodies room after : List ℕ} → WriteOf sizes bodies room Written after → Writable sizes bodies
-unfolding number
+unfolding fileNumber
 written-writable {sizes} {bodies} {room} w =
-    let rows = passed-none number (WriteFault sizes bodies room) writeOrder 0 0 refl refl (w .answered) .0 in
+    let rows = passed-none fileNumber (WriteFault sizes bodies room) writeOrder 0 0 refl refl (w .answered) .0 in
     put
     (allowed (ℕ-discrete (length sizes % 2) 1) (decLe 1 (jobCount sizes)) (decLe (jobCount sizes) mostJobs) (rows .0))
     (ℕ-discrete (length bodies) (bodiesSize sizes))
@@ -121,7 +122,7 @@ written-writable {sizes} {bodies} {room} w =
 
 -- ---- one answer
 
-pub write-once : {sizes bodies room : List ℕ} (row : Row) (p q : ℕ) → WriteFault sizes bodies room row p → WriteFault sizes bodies room row q → p ≡ q
+pub write-once : {sizes bodies room : List ℕ} (row : FileRow) (p q : ℕ) → WriteFault sizes bodies room row p → WriteFault sizes bodies room row q → p ≡ q
 write-once row p q (contents-refused a) (contents-refused b) = refl
 write-once row p q (body-refused a) (body-refused b) = refl
 write-once row p q (file-refused a) (file-refused b) = refl
@@ -149,16 +150,16 @@ pub write-only : {sizes bodies room : List ℕ} {r s : WriteAnswer} {room₁ roo
     → (r ≡ s) × (room₁ ≡ room₂)
 write-only {sizes} {bodies} {room} {r} {s} a b =
     let same : (numberOf r ≡ numberOf s) × (placeOf r ≡ placeOf s) =
-    answered-only number (WriteFault sizes bodies room) write-once writeOrder (numberOf r) (placeOf r) (numberOf s) (placeOf s) (a .answered) (b .answered) in
+    answered-only fileNumber (WriteFault sizes bodies room) write-once writeOrder (numberOf r) (placeOf r) (numberOf s) (placeOf s) (a .answered) (b .answered) in
     let e : r ≡ s = sym (answer-by-number r) ∙ ap answerWith (same .0) ∙ answer-by-number s in
-    (e, a .room-left ∙ ap (λ (q : WriteAnswer). left q (fileOf sizes bodies) room) e ∙ sym (b .room-left))
+    (e, a .room-left ∙ ap (λ (q : WriteAnswer). roomWritten q (fileOf sizes bodies) room) e ∙ sym (b .room-left))
 
 -- What no row refuses, the writer writes, where there is room.
 pub writable-written : {sizes bodies room : List ℕ} {r : WriteAnswer} {after : List ℕ} → Writable sizes bodies → length (fileOf sizes bodies) ≤ length room
     → WriteOf sizes bodies room r after → (r ≡ Written) × (after ≡ fileOf sizes bodies ++ drop (length (fileOf sizes bodies)) room)
-unfolding left
+unfolding roomWritten
 writable-written {sizes} {bodies} {room} {r} w enough given =
     let ok : Allowed sizes = record { even = w .even; some-job = w .some-job; few-jobs = w .few-jobs } in
     let size : length (fileOf sizes bodies) ≡ contentsEnd (jobCount sizes) + length bodies = length-fileOf sizes bodies (w .even) in
     let e : r ≡ Written = write-only given (write-all sizes bodies room ok (w .sum) (omega (arith, w .short)) (omega arith) refl refl) .0 in
-    (e, given .room-left ∙ ap (λ (q : WriteAnswer). left q (fileOf sizes bodies) room) e)
+    (e, given .room-left ∙ ap (λ (q : WriteAnswer). roomWritten q (fileOf sizes bodies) room) e)

@@ -15,7 +15,7 @@ use Rattle.rows.specs.Placed.{placed}
 use Rattle.rows.proofs.Laws.{length-bytesOf, length-placed, behind-stays, Built, built-none, built-all}
 use Rattle.words.specs.Limits.{mostBytes}
 use Rattle.jobfile.specs.File.{bodySize, contentsEnd, jobCount, bodiesSize, contentsOf}
-use Rattle.jobfile.specs.Writer.{frontOf, Fitted}
+use Rattle.jobfile.specs.Steps.Writing.{frontOf, Fitted}
 use Rattle.jobfile.proofs.NumberLaws.{to-the-end}
 use Rattle.jobfile.proofs.FileLaws.{length-contentsOf}
 

@@ -14,7 +14,8 @@ use borrow.Author.Tests.{lt-ltb, le-ltb}
 use Rattle.words.specs.Limits.{mostJobs, mostSizes}
 use Rattle.graphs.proofs.Classes.{never}
 use Rattle.jobfile.specs.File.{bodySize, contentsEnd, countIn, offsetIn, wordsIn, pairsIn, bodyStart, bodyIn, sizesIn, GoodFile}
-use Rattle.jobfile.specs.Reader.{Judged, numberedBody, yieldedSizes, yieldedBodies, yieldedBody, inRow, Holds, BodiesOf, BodyOf, passes}
+use Rattle.jobfile.specs.Reader.{Judged, numberedBody, yieldedSizes, yieldedBodies, yieldedBody, inRow, Holds, BodiesOf, BodyOf}
+use Rattle.jobfile.specs.Steps.Reading.{passes}
 use Rattle.jobfile.specs.declared.answers.FileAnswer.{FileAnswer}
 use Rattle.jobfile.specs.declared.answers.FileAnswer.the-variants.{Good, File, Contents, Body}
 use Rattle.jobfile.specs.declared.sizes.Sizes.{Sizes}

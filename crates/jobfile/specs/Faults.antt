@@ -9,14 +9,14 @@ use Rattle.words.specs.Limits.{mostBytes, mostJobs}
 use Rattle.answering.specs.Answers.{Lowest}
 use Rattle.jobfile.specs.File.{contentsEnd, countIn, offsetIn, bodyStart, jobCount, bodiesSize, fileOf}
 
-pub data Row : Type 0 where
-  ROOM FILE CONTENTS BODY : Row
+pub data FileRow : Type 0 where
+  ROOM FILE CONTENTS BODY : FileRow
 
-unfoldable pub number : Row → ℕ
-number ROOM = 2
-number FILE = 12
-number CONTENTS = 13
-number BODY = 14
+unfoldable pub fileNumber : FileRow → ℕ
+fileNumber ROOM = 2
+fileNumber FILE = 12
+fileNumber CONTENTS = 13
+fileNumber BODY = 14
 
 -- ---- the reader
 
@@ -30,7 +30,7 @@ pub data BodyFault (bytes : List ℕ) : ℕ → Type 0 where
   bytes-follow : bodyStart bytes (countIn bytes) < length bytes → BodyFault bytes (countIn bytes + 1)
 
 -- A row applies to a file, at a place.
-pub data ReadFault (bytes : List ℕ) : Row → ℕ → Type 0 where
+pub data ReadFault (bytes : List ℕ) : FileRow → ℕ → Type 0 where
   -- "under 2 bytes or over 32,768, place 0"
   file-fault : (length bytes < 2) ⊎ (mostBytes < length bytes) → ReadFault bytes FILE 0
   -- "J is 0 or over 64, or the contents pass the end, place 0"
@@ -38,13 +38,13 @@ pub data ReadFault (bytes : List ℕ) : Row → ℕ → Type 0 where
   -- "The lowest number wins, then the lowest place."
   body-fault : {p : ℕ} → Lowest (BodyFault bytes) p → ReadFault bytes BODY p
 
-abbrev pub readOrder : List Row
+abbrev pub readOrder : List FileRow
 readOrder = FILE ∷ CONTENTS ∷ BODY ∷ []
 
 -- ---- the writer
 
 -- A row applies to what the writer takes: "the sizes (n, p, n, p, ..), the bodies' bytes end to end, and room"; "place is 0".
-pub data WriteFault (sizes bodies room : List ℕ) : Row → ℕ → Type 0 where
+pub data WriteFault (sizes bodies room : List ℕ) : FileRow → ℕ → Type 0 where
   -- "13 for an odd row of sizes or J not 1 to 64"
   contents-refused : (length sizes % 2 ≡ 1) ⊎ ((jobCount sizes ≡ 0) ⊎ (mostJobs < jobCount sizes)) → WriteFault sizes bodies room CONTENTS 0
   -- "14 if the bodies' length is not the sum"
@@ -55,5 +55,5 @@ pub data WriteFault (sizes bodies room : List ℕ) : Row → ℕ → Type 0 wher
   room-refused : length room < length (fileOf sizes bodies) → WriteFault sizes bodies room ROOM 0
 
 -- "It refuses in this order": 13, 14, 12, 2
-abbrev pub writeOrder : List Row
+abbrev pub writeOrder : List FileRow
 writeOrder = CONTENTS ∷ BODY ∷ FILE ∷ ROOM ∷ []

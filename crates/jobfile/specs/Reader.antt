@@ -1,14 +1,14 @@
 -- What the reader answers, and what it yields. The sentences quoted are document 01's, "The job file". Assumes nothing.
 use mathlib.Core.Path.{_≡_}
-use mathlib.Core.Bool.{Bool, true, false, cond}
-use mathlib.Core.List.{List, [], _∷_, _++_}
-use Prim.Native.Nat.{ℕ, zero, suc, _-_, _≤_}
+use mathlib.Core.Bool.{cond}
+use mathlib.Core.List.{List, [], _++_}
+use Prim.Native.Nat.{ℕ, zero, suc, _-_}
 use lib.Dec.{ltb}
 use lib.ListN.{length, replicate}
-use Rattle.words.specs.Limits.{mostBytes, mostJobs, mostSizes}
+use Rattle.words.specs.Limits.{mostSizes}
 use Rattle.answering.specs.Answers.{Answered}
-use Rattle.jobfile.specs.File.{contentsEnd, countIn, bodyIn, sizesIn, bodiesIn}
-use Rattle.jobfile.specs.Faults.{BODY, number, ReadFault, readOrder}
+use Rattle.jobfile.specs.File.{countIn, bodyIn, sizesIn, bodiesIn}
+use Rattle.jobfile.specs.Faults.{fileNumber, ReadFault, readOrder}
 use Rattle.jobfile.specs.declared.answers.FileAnswer.{FileAnswer}
 use Rattle.jobfile.specs.declared.answers.FileAnswer.the-variants.{Good, File, Contents, Body}
 use Rattle.jobfile.specs.declared.sizes.Sizes.{Sizes}
@@ -29,7 +29,7 @@ placeOf (Body entry) = entry .0
 
 -- "The lowest number wins, then the lowest place. A good file answers 0, place 0"
 abbrev pub Judged : List ℕ → FileAnswer → Type 0
-Judged bytes answer = Answered number (ReadFault bytes) readOrder (numberOf answer) (placeOf answer)
+Judged bytes answer = Answered fileNumber (ReadFault bytes) readOrder (numberOf answer) (placeOf answer)
 
 -- ---- what it yields
 
@@ -83,24 +83,3 @@ pub record BodyOf (bytes : List ℕ) (job : ℕ) (part : List ℕ) : Type 0 wher
   pub answer : FileAnswer
   pub judged : Judged bytes answer
   pub yielded : part ≡ yieldedBody answer bytes job
-
--- ---- for the reader's own functions alone
-
-abbrev pub passes : FileAnswer → Bool
-passes Good = true
-passes File = false
-passes Contents = false
-passes (Body entry) = false
-
--- the count was read: neither 12 nor 13 applies
-pub record Opened (bytes : List ℕ) (jobs : ℕ) : Type 0 where
-  pub counted : jobs ≡ countIn bytes
-  pub at-least : 2 ≤ length bytes
-  pub at-most : length bytes ≤ mostBytes
-  pub some-job : 1 ≤ countIn bytes
-  pub few-jobs : countIn bytes ≤ mostJobs
-  pub contents-inside : contentsEnd (countIn bytes) ≤ length bytes
-
--- the answer by the row 14 alone
-abbrev pub BodiesJudged : List ℕ → FileAnswer → Type 0
-BodiesJudged bytes answer = Answered number (ReadFault bytes) (BODY ∷ []) (numberOf answer) (placeOf answer)

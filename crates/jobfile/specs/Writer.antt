@@ -2,13 +2,11 @@
 -- Assumes nothing.
 use mathlib.Core.Path.{_≡_}
 use mathlib.Core.List.{List, _++_}
-use Prim.Native.Nat.{ℕ, _+_, _*_, _≤_}
+use Prim.Native.Nat.{ℕ, _+_}
 use lib.ListN.{length, drop}
-use Rattle.rows.specs.LittleEndian.{bytesOf}
-use Rattle.words.specs.Limits.{mostBytes}
 use Rattle.answering.specs.Answers.{Answered}
-use Rattle.jobfile.specs.File.{contentsEnd, jobCount, bodiesSize, contentsOf, fileOf}
-use Rattle.jobfile.specs.Faults.{number, WriteFault, writeOrder}
+use Rattle.jobfile.specs.File.{fileOf}
+use Rattle.jobfile.specs.Faults.{fileNumber, WriteFault, writeOrder}
 use Rattle.jobfile.specs.declared.answers.WriteAnswer.{WriteAnswer}
 use Rattle.jobfile.specs.declared.answers.WriteAnswer.the-variants.{Written, Contents, Body, File, Room}
 
@@ -24,25 +22,13 @@ abbrev pub placeOf : WriteAnswer → ℕ
 placeOf answer = 0
 
 -- "It refuses in this order, writes nothing then .. Bytes after the file stay."
-unfoldable pub left : WriteAnswer → List ℕ → List ℕ → List ℕ
-left Written file room = file ++ drop (length file) room
-left Contents file room = room
-left Body file room = room
-left File file room = room
-left Room file room = room
+unfoldable pub roomWritten : WriteAnswer → List ℕ → List ℕ → List ℕ
+roomWritten Written file room = file ++ drop (length file) room
+roomWritten Contents file room = room
+roomWritten Body file room = room
+roomWritten File file room = room
+roomWritten Room file room = room
 
 pub record WriteOf (sizes bodies room : List ℕ) (answer : WriteAnswer) (room-after : List ℕ) : Type 0 where
-  pub answered : Answered number (WriteFault sizes bodies room) writeOrder (numberOf answer) (placeOf answer)
-  pub room-left : room-after ≡ left answer (fileOf sizes bodies) room
-
--- ---- for the writer's own functions alone
-
--- what a file begins with: the count and the entries
-abbrev pub frontOf : List ℕ → List ℕ
-frontOf sizes = bytesOf 2 (jobCount sizes) ++ contentsOf (contentsEnd (jobCount sizes)) sizes
-
--- sizes of so many jobs, whose file is short enough, and room for its contents
-pub record Fitted (sizes room : List ℕ) : Type 0 where
-  pub even : length sizes ≡ 2 * jobCount sizes
-  pub short : contentsEnd (jobCount sizes) + bodiesSize sizes ≤ mostBytes
-  pub enough : contentsEnd (jobCount sizes) ≤ length room
+  pub answered : Answered fileNumber (WriteFault sizes bodies room) writeOrder (numberOf answer) (placeOf answer)
+  pub room-left : room-after ≡ roomWritten answer (fileOf sizes bodies) room

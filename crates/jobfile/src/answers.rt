@@ -1,6 +1,7 @@
 // The answers of the reader and of the writer.
 ghost use mathlib.Core.Path.{_≡_};
-ghost use Rattle.jobfile.specs.Reader.{passes, numberOf as fileNumber, placeOf as filePlace};
+ghost use Rattle.jobfile.specs.Reader.{numberOf as fileNumber, placeOf as filePlace};
+ghost use Rattle.jobfile.specs.Steps.Reading.{passes};
 ghost use Rattle.jobfile.specs.Writer.{numberOf as writeNumber};
 
 // The number of an entry of the contents, from 1; J + 1 for what follows the last body.

@@ -16,7 +16,7 @@ use Rattle路words.specs.Limits.{mostWords, mostBytes}
 use Rattle路answering.proofs.Orders.{passed-none, none-parts}
 use Rattle路table.specs.Faults.{Job, Fault, number, checkOrder, listRows, pairRows, matchOrder}
 use Rattle路matcher.specs.Match.{numberOf, placeOf, jobOf, MatchOf}
-use Rattle路matcher.specs.Stages.{Ready}
+use Rattle路matcher.specs.Steps.PassedAll.{PassedAll}
 use Rattle路matcher.specs.declared.answer.Matched.{Matched}
 use Rattle路matcher.proofs.Verdicts.{ready}
 use Rattle路matcher.proofs.OneMatch.{match-only}
@@ -104,7 +104,7 @@ pub accepted-room : {file class work table list class-after work-after : List 鈩
 unfolding number
 accepted-room {file} {class} {work} {k = k} {answer} m z =
     let job : Job = jobOf (jobAt file k .words) (entriesOf (jobAt file k .pairs)) class work in
-    let has : Ready job = ready (none-parts (Fault job) (checkOrder ++ listRows) pairRows (passed-none number (Fault job) matchOrder (numberOf answer) (placeOf answer) refl z (m .matched .answered) .0) .0) in
+    let has : PassedAll job = ready (none-parts (Fault job) (checkOrder ++ listRows) pairRows (passed-none number (Fault job) matchOrder (numberOf answer) (placeOf answer) refl z (m .matched .answered) .0) .0) in
     (omega (arith, has .small, ap length (m .words)), omega (arith, has .class-enough, ap length (m .words)))
 
 -- ---- the row of the table

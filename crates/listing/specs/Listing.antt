@@ -21,8 +21,8 @@ abbrev pub Entered : List ℕ → ℕ → Type 0
 Entered file k = GoodFile file × (k < countIn file)
 
 -- Rows of just the length that the table and the list of entry k have.
-abbrev pub Sized : List ℕ → ℕ → List ℕ → List ℕ → Type 0
-Sized file k table list = Entered file k × (length table ≡ wordsIn file k) × (length list ≡ 2 * pairsIn file k)
+abbrev pub RowsOfEntry : List ℕ → ℕ → List ℕ → List ℕ → Type 0
+RowsOfEntry file k table list = Entered file k × (length table ≡ wordsIn file k) × (length list ≡ 2 * pairsIn file k)
 
 -- job k of a file, from 0
 abbrev pub jobAt : List ℕ → ℕ → FileJob

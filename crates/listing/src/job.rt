@@ -4,7 +4,7 @@ ghost use Prim.Native.Nat.{_*_};
 ghost use lib.ListN.{length};
 ghost use Rattle.jobfile.specs.File.{wordsIn, pairsIn};
 ghost use Rattle.jobfile.specs.Jobs.{entriesOf};
-ghost use Rattle.listing.specs.Listing.{Entered, Sized, jobAt, JobMatched};
+ghost use Rattle.listing.specs.Listing.{Entered, RowsOfEntry, jobAt, JobMatched};
 use matcher::answer::Matched;
 
 // Fills a row of n entries with the words of entry k.
@@ -34,7 +34,7 @@ pub(crate) fn match_job(
     class: &mut [u16],
     work: &mut [u16],
 ) -> Matched
-    requires { ⌜ Sized (now file) k (now table) (now list) ⌝ }
+    requires { ⌜ RowsOfEntry (now file) k (now table) (now list) ⌝ }
     ensures { λ r. ⌜ JobMatched (now (file .entry)) k (now (class .entry)) (now (work .entry)) r (now (table .exit)) (now (list .exit)) (now (class .exit)) (now (work .exit)) ⌝ }
 {
     load_words(file, k, table);

@@ -21,7 +21,7 @@ use Rattle.table.specs.Shaped.{Shaped}
 use Rattle.table.proofs.Children.{kind-node, NamedChild, named-child, degree-child}
 use Rattle.table.proofs.Shape.{shaped-laid, shaped-degree, shaped-child}
 use Rattle.cycles.specs.Digraph.{Edge, digraphOf, Returns, Searchable}
-use Rattle.matcher.specs.Stages.{Cycles}
+use Rattle.matcher.specs.Steps.PassedAll.{Cycles}
 
 module _ {t : List ℕ} (class : List ℕ) {pairs : List Pair} (shaped : Shaped t) (wf : WellFormed (graphOf t)) (sides : Sides (graphOf t) pairs) (table : ClassTable (graphOf t) pairs (take (length t) class)) (room : length t ≤ length class) where
   -- ---- entries of the row

@@ -23,9 +23,9 @@ use Rattle.table.specs.Table.{TableSymbols, graphOf}
 use Rattle.table.specs.Faults.{Job, number, Fault, clash-fault, cycle-fault, checkOrder, listRows, pairRows, matchOrder}
 use Rattle.table.proofs.OneAnswer.{fault-once}
 use Rattle.matcher.specs.declared.answer.Matched.{Matched}
-use Rattle.matcher.specs.Match.{numberOf, placeOf, joinsOf, Bound, jobOf, MatchOf, Passes}
+use Rattle.matcher.specs.Match.{numberOf, placeOf, joinsOf, AcceptedWith, jobOf, MatchOf, Passes}
 use Rattle.matcher.specs.Demands.{Met, FirstUnmet, FirstClash, FirstCycle}
-use Rattle.matcher.specs.Stages.{Ready}
+use Rattle.matcher.specs.Steps.PassedAll.{PassedAll}
 use Rattle.matcher.proofs.Verdicts.{ready, list-so-far, accepted-answered, clash-answered, cycle-answered}
 
 -- ---- lists that can be met
@@ -69,7 +69,7 @@ module _ {job : Job} where
   which a p (inr (no-clash, inr (no-cycle, (z, e)))) = inl z
 
 module _ {t list class work : List ℕ} {r : Matched} {class-after work-after : List ℕ} (m : MatchOf t list class work r class-after work-after) (passes : Passes (jobOf t list class work)) where
-  has : Ready (jobOf t list class work)
+  has : PassedAll (jobOf t list class work)
   has = ready passes
 
   sides-so-far : (k : ℕ) → Sides (graphOf t) (take k (pairsOf list))
@@ -82,7 +82,7 @@ module _ {t list class work : List ℕ} {r : Matched} {class-after work-after : 
   -- ---- the class table
 
   -- The entries in front are the table that the answer 0 promises.
-  front-is : (b : Bound t list class class-after (joinsOf r)) → take (length t) class-after ≡ b .table
+  front-is : (b : AcceptedWith t list class class-after (joinsOf r)) → take (length t) class-after ≡ b .table
   front-is b = ap (take (length t)) (b .row) ∙ take-at (b .table) (drop (length t) class) (length t) (b .class-table .long)
 
   -- If the answer is 0, the class entries in use are the class table of the list: a node's entry is its class's name.

@@ -21,18 +21,18 @@ use Rattle.classes.specs.declared.joining.Joined.{Joined}
 use Rattle.classes.specs.Joining.{Joinable, ByOutcome, JoinOf}
 use Rattle.classes.proofs.OwnClasses.{apart-front, apart-long}
 use Rattle.classes.proofs.OneByOne.{first-in-whole}
-use Rattle.matcher.specs.FirstFailure.{Standing, Lent, Partitioned, FirstJoined, all-joined, clash-at, JoinsFirst, UntilClash}
+use Rattle.matcher.specs.Steps.FirstFailure.{Standing, OnlyClassFront, Partitioned, FirstJoined, all-joined, clash-at, JoinsFirst, UntilClash}
 
 -- ---- rows after a step
 
-pub lent-none : {t class work : List ℕ} → Lent t class work class work
+pub lent-none : {t class work : List ℕ} → OnlyClassFront t class work class work
 lent-none = record { class-long = refl; class-behind = refl; work-same = refl }
 
-pub lent-join : {t class work class-mid work-mid class-after work-after : List ℕ} → Lent t class work class-mid work-mid → Lent t class-mid work-mid class-after work-after → Lent t class work class-after work-after
+pub lent-join : {t class work class-mid work-mid class-after work-after : List ℕ} → OnlyClassFront t class work class-mid work-mid → OnlyClassFront t class-mid work-mid class-after work-after → OnlyClassFront t class work class-after work-after
 lent-join k l =
     record { class-long = l .class-long ∙ k .class-long; class-behind = l .class-behind ∙ k .class-behind; work-same = l .work-same ∙ k .work-same }
 
-pub standing-after : {t list class work class-after work-after : List ℕ} → Standing t list class work → Lent t class work class-after work-after → Standing t list class-after work-after
+pub standing-after : {t list class work class-after work-after : List ℕ} → Standing t list class work → OnlyClassFront t class work class-after work-after → Standing t list class-after work-after
 standing-after {t} {list} {class} {work} s l =
     record {
       ready =
@@ -84,7 +84,7 @@ module _ {t list class work class-apart : List ℕ} {k : ℕ} (s : Standing t li
     apart-behind : drop (length t) class-apart ≡ drop (length t) class
     apart-behind = ap (drop (length t)) apart-row ∙ behind-stays (apart (graphOf t)) class (length t) (length t) (apart-long t) (omega arith)
 
-    lent-by : drop (length t) class-after ≡ drop (length t) class-apart → Lent t class work class-after work-after
+    lent-by : drop (length t) class-after ≡ drop (length t) class-apart → OnlyClassFront t class work class-after work-after
     lent-by e = record { class-long = long-after ∙ long; class-behind = e ∙ apart-behind; work-same = work-kept }
 
     pub joins-first : JoinsFirst t list class work k answer class-after work-after
@@ -143,7 +143,7 @@ clash-place {at = at} (clash-at {at = b} i f l c n) e =
 
 -- the pairs before the clash are joined afresh
 pub until-clash : {t list class work class-mid work-mid class-after work-after : List ℕ} {at : PairNumber} {k m : ℕ} {answer : Joined}
-    → Lent t class work class-mid work-mid → ClashPlace t list at k → k ≤ length (pairsOf list) → m + 1 ≡ at .0
+    → OnlyClassFront t class work class-mid work-mid → ClashPlace t list at k → k ≤ length (pairsOf list) → m + 1 ≡ at .0
     → JoinsFirst t list class-mid work-mid m answer class-after work-after → UntilClash t list class work m class-after work-after
 until-clash {t} {list} {m = m} lent c h e j =
     let same : c .place ≡ m = omega (arith, c .numbers) in

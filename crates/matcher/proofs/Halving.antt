@@ -26,8 +26,8 @@ use Rattle.classes.proofs.CountedJoins.{front-names-nodes}
 use Rattle.classes.proofs.Counts.{count-same, ownNode}
 use Rattle.matcher.specs.declared.answer.Matched.{Matched}
 use Rattle.matcher.specs.Match.{jobOf, Passes}
-use Rattle.matcher.specs.Stages.{Cycles}
-use Rattle.matcher.specs.FirstFailure.{Standing, Lent, Partitioned, JoinsFirst, UntilClash, Clashless, TellsCycle, CycleAt, Verdict}
+use Rattle.matcher.specs.Steps.PassedAll.{Cycles}
+use Rattle.matcher.specs.Steps.FirstFailure.{Standing, OnlyClassFront, Partitioned, JoinsFirst, UntilClash, Clashless, TellsCycle, CycleAt, Verdict}
 use Rattle.matcher.proofs.CycleSearch.{class-searchable, search-tells}
 use Rattle.matcher.proofs.Verdicts.{accepted-answered, clash-answered, cycle-answered}
 use Rattle.matcher.proofs.FirstPairs.{lent-join, lent-none, standing-after, first-sides, all-partitioned}
@@ -50,7 +50,7 @@ module _ {t list class work : List ℕ} {k : ℕ} (s : Standing t list class wor
         search-tells class (s .ready .shaped) (s .ready .well-formed) (first-sides (s .ready .sides) k inside) (p .class-table) (s .ready .class-enough)
         (p .no-clash) found (searched .truth)
 
-    pub row-lent : Lent t class work class work-after
+    pub row-lent : OnlyClassFront t class work class work-after
     row-lent = record { class-long = refl; class-behind = refl; work-same = searched .cleared ∙ s .clean }
 
 -- what `has_cycle` does
@@ -68,7 +68,7 @@ fewer-clashless {t} {list} {many} k c h =
 
 -- The first `few` pairs have no cycle and the first `many` have one.
 pub record Halved (t list class₀ work₀ : List ℕ) (all : ℕ) (class work : List ℕ) (few many : ℕ) : Type 0 where
-  pub lent : Lent t class₀ work₀ class work
+  pub lent : OnlyClassFront t class₀ work₀ class work
   pub apart : few < many
   pub within : many ≤ all
   pub none-yet : Cycle (graphOf t) (take few (pairsOf list)) → ⊥
@@ -190,7 +190,7 @@ module _ {t list class work class-mid work-mid work-search : List ℕ} {m : ℕ}
   joined-clashless : Clashless t list m
   joined-clashless = record { inside = until .inside; no-clash = until .partitioned .no-clash }
 
-  both-lent : Lent t class work class-mid work-search
+  both-lent : OnlyClassFront t class work class-mid work-search
   both-lent = lent-join (until .lent) (row-lent (standing-after s (until .lent)) (until .inside) (until .partitioned) searched)
 
   -- what the search for the first cycle asks

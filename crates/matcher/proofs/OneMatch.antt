@@ -18,7 +18,7 @@ use Rattle.table.specs.Table.{graphOf}
 use Rattle.table.specs.Faults.{Fault, number, matchOrder}
 use Rattle.table.proofs.OneAnswer.{fault-once}
 use Rattle.matcher.specs.declared.answer.Matched.{Matched}
-use Rattle.matcher.specs.Match.{numberOf, placeOf, joinsOf, Bound, jobOf, MatchOf}
+use Rattle.matcher.specs.Match.{numberOf, placeOf, joinsOf, AcceptedWith, jobOf, MatchOf}
 
 -- the answer that has a number, a place and joins
 answerWith : ℕ → ℕ → ℕ → Matched
@@ -63,7 +63,7 @@ module _ {t list class work : List ℕ} {r s : Matched} {class₁ work₁ class�
       answered-only number (Fault (jobOf t list class work)) (fault-once (jobOf t list class work)) matchOrder (numberOf r) (placeOf r) (numberOf s) (placeOf s) (a .answered) (b .answered)
 
   -- an accepted list has one class table
-  same-bound : {j k : ℕ} → Bound t list class class₁ j → Bound t list class class₂ k → (j ≡ k) × (class₁ ≡ class₂)
+  same-bound : {j k : ℕ} → AcceptedWith t list class class₁ j → AcceptedWith t list class class₂ k → (j ≡ k) × (class₁ ≡ class₂)
   same-bound c d =
       let e : c .table ≡ d .table = class-table-only (c .class-table) (d .class-table) in (
         c .joins-counted ∙ ap (joins (graphOf t)) e ∙ sym (d .joins-counted),

@@ -32,7 +32,7 @@ use Rattle.checker.specs.declared.answer.Checked.{Checked}
 use Rattle.checker.specs.Check.{CheckOf}
 use Rattle.matcher.specs.declared.answer.Matched.{Matched}
 use Rattle.matcher.specs.Match.{jobOf, MatchOf, Passes}
-use Rattle.matcher.specs.Stages.{Ready}
+use Rattle.matcher.specs.Steps.PassedAll.{PassedAll}
 
 -- ---- the check's answer is the match's
 
@@ -129,7 +129,7 @@ module _ {job : Job} (passes : Passes job) where
       (subst (λ (q : Pair). badSides (job .table) q ≡ false) (at .2) (good-side (at .0) (at .1))) in
       (kind-node (job .table) (p .left) (kinds .0), kind-node (job .table) (p .right) (kinds .1))
 
-  pub ready : Ready job
+  pub ready : PassedAll job
   ready =
       record {
         some-word = some-word-there;

@@ -19,9 +19,9 @@ use Rattle.table.specs.Faults.{Job, pairAt, badSides, LIST, Fault, number, chec
 use Rattle.checker.specs.declared.answer.Checked.{Checked}
 use Rattle.checker.specs.Check.{CheckOf}
 use Rattle.matcher.specs.declared.answer.Matched.{Matched}
-use Rattle.matcher.specs.Match.{numberOf, placeOf, joinsOf, Bound, jobOf, MatchOf, Passes}
-use Rattle.matcher.specs.Stages.{BadList}
-use Rattle.matcher.specs.FirstFailure.{Standing, TablePassed, Verdict}
+use Rattle.matcher.specs.Match.{numberOf, placeOf, joinsOf, AcceptedWith, jobOf, MatchOf, Passes}
+use Rattle.matcher.specs.Steps.PassedAll.{BadList}
+use Rattle.matcher.specs.Steps.FirstFailure.{Standing, TablePassed, Verdict}
 use Rattle.matcher.proofs.Verdicts.{check-passed, list-answered, list-clear, side-answered, passes-all, ready}
 
 pub check-is : {t class work class₁ work₁ : List ℕ} {r s : Checked} → CheckOf t class work r class₁ work₁ → r ≡ s → CheckOf t class work s class₁ work₁
@@ -55,7 +55,7 @@ module _ {t class work class₁ work₁ : List ℕ} (list : List ℕ) (check : C
       record {
         answered = subst (λ (job : Job). Answered number (Fault job) matchOrder (numberOf answer) (placeOf answer)) (job-same t list class work class₁ work₁ class-long work-long) (v .answered);
         bound = λ z.
-            let b : Bound t list class₁ class-after (joinsOf answer) = v .bound z in
+            let b : AcceptedWith t list class₁ class-after (joinsOf answer) = v .bound z in
             record { table = b .table; class-table = b .class-table; row = b .row ∙ ap (λ (rest : List ℕ). b .table ++ rest) behind; joins-counted = b .joins-counted };
         refused = λ z. v .refused z ∙ ap (λ (rest : List ℕ). replicate (length t) 0 ++ rest) behind ∙ sym (left-zeroed (numberOf answer) (length t) class (v .late));
         work-left = v .work-same ∙ work-zero ∙ sym (left-zeroed (numberOf answer) (4 * length t) work (v .late));

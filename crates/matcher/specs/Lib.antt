@@ -1,6 +1,5 @@
--- Match is what a match promises, and Demands has the words of the demands on it; Stages and FirstFailure serve this
--- crate alone.
+-- Match is what a match promises, and Demands has the words of the demands on it. Steps has what its private steps promise
+-- each other.
 pub mod Match
 pub mod Demands
-pub mod Stages
-pub mod FirstFailure
+pub mod Steps

@@ -43,7 +43,7 @@ joinsOf (Cycle k) = 0
 -- ---- the match
 
 -- "for answer 0 the class entries are the class table", and "The joins are the number of nodes less the number of classes."
-pub record Bound (t list class class-after : List ℕ) (joined : ℕ) : Type 0 where
+pub record AcceptedWith (t list class class-after : List ℕ) (joined : ℕ) : Type 0 where
   pub table : List ℕ
   pub class-table : ClassTable (graphOf t) (pairsOf list) table
   pub row : class-after ≡ table ++ drop (length t) class
@@ -55,7 +55,7 @@ jobOf t list class work = sent t list (length class) (length work)
 -- "Each match returns answer, place and joins."
 pub record MatchOf (t list class work : List ℕ) (answer : Matched) (class-after work-after : List ℕ) : Type 0 where
   pub answered : Answered number (Fault (jobOf t list class work)) matchOrder (numberOf answer) (placeOf answer)
-  pub bound : numberOf answer ≡ 0 → Bound t list class class-after (joinsOf answer)
+  pub bound : numberOf answer ≡ 0 → AcceptedWith t list class class-after (joinsOf answer)
   pub refused : (numberOf answer ≡ 0 → ⊥) → class-after ≡ left (numberOf answer) (length t) class
   pub work-left : work-after ≡ left (numberOf answer) (4 * length t) work
 

@@ -9,7 +9,7 @@ ghost use lib.ListN.{length, take};
 ghost use Rattle.graphs.specs.Partition.{pairsOf, Cycle};
 ghost use Rattle.table.specs.Table.{graphOf};
 ghost use Rattle.matcher.specs.Match.{jobOf, Passes};
-ghost use Rattle.matcher.specs.FirstFailure.{Standing, JoinsFirst, UntilClash, Clashless, TellsCycle, CycleAt, Verdict};
+ghost use Rattle.matcher.specs.Steps.FirstFailure.{Standing, JoinsFirst, UntilClash, Clashless, TellsCycle, CycleAt, Verdict};
 use crate::answer::Counts;
 use crate::answer::Matched;
 use classes::joining::Joined;

@@ -11,7 +11,7 @@ pub mod answer;
 mod first_failure;
 mod list_faults;
 
-ghost use Rattle.matcher.specs.FirstFailure.{TablePassed, Verdict};
+ghost use Rattle.matcher.specs.Steps.FirstFailure.{TablePassed, Verdict};
 ghost use Rattle.matcher.specs.Match.{MatchOf};
 use answer::Matched;
 use checker::answer::Checked;

@@ -5,7 +5,7 @@ ghost use lib.ListN.{length};
 ghost use Rattle.graphs.specs.Partition.{pairsOf};
 ghost use Rattle.answering.specs.Answers.{First};
 ghost use Rattle.table.specs.Faults.{pairAt, badSides};
-ghost use Rattle.matcher.specs.Stages.{BadList};
+ghost use Rattle.matcher.specs.Steps.PassedAll.{BadList};
 use table::node;
 use words::limits::MOST_ENTRIES;
 use words::numbers::Address;

@@ -18,7 +18,7 @@ use native.Mathlib.Omega.{arith}
 use mathlib.Core.List.{List, [], _∷_, _++_, append-assoc}
 use lib.ListN.{length, take, drop, getD, set, replicate, length-replicate, getD-replicate, List·getD-append, length-set, length-append, length-take, length-drop, take-append-drop}
 use lib.Seq.{drop-cons, take-suc, append-snoc, set-at, take-at, drop-at, length-take-le, take-all, take-append-le, drop-append-le, drop-append-add, drop-drop, sets, sets-eq}
-use Rattle.rows.specs.LittleEndian.{number, bytesOf, numberAt, AllBytes}
+use Rattle.rows.specs.LittleEndian.{fromBytes, bytesOf, numberAt, AllBytes}
 use Rattle.rows.specs.Placed.{placed, zeroed}
 
 -- ---- numbers as bytes
@@ -29,27 +29,27 @@ length-bytesOf zero x = refl
 length-bytesOf (suc k) x = ap suc (length-bytesOf k (x / 256))
 
 -- a number that k bytes can hold is the number that its k bytes make
-pub number-bytesOf : (k x : ℕ) → x < 256 ^ k → number (bytesOf k x) ≡ x
-unfolding number bytesOf
+pub number-bytesOf : (k x : ℕ) → x < 256 ^ k → fromBytes (bytesOf k x) ≡ x
+unfolding fromBytes bytesOf
 number-bytesOf zero x h = omega (arith, pow-zero 256)
 number-bytesOf (suc k) x h =
-    let rest : number (bytesOf k (x / 256)) ≡ x / 256 = number-bytesOf k (x / 256) (omega (arith, pow-suc 256 k)) in
+    let rest : fromBytes (bytesOf k (x / 256)) ≡ x / 256 = number-bytesOf k (x / 256) (omega (arith, pow-suc 256 k)) in
     omega arith
 
 -- what k bytes make, k bytes can hold
-pub number-below : (bs : List ℕ) → AllBytes bs → number bs < 256 ^ length bs
-unfolding number
+pub number-below : (bs : List ℕ) → AllBytes bs → fromBytes bs < 256 ^ length bs
+unfolding fromBytes
 number-below [] h = omega (arith, pow-zero 256)
 number-below (b ∷ bs) h = omega (arith, pow-suc 256 (length bs), number-below bs (λ i. h (suc i)), h 0)
 
 -- the bytes of the number that bytes make are those bytes
-pub bytesOf-number : (bs : List ℕ) → AllBytes bs → bytesOf (length bs) (number bs) ≡ bs
-unfolding number bytesOf
+pub bytesOf-number : (bs : List ℕ) → AllBytes bs → bytesOf (length bs) (fromBytes bs) ≡ bs
+unfolding fromBytes bytesOf
 bytesOf-number [] h = refl
 bytesOf-number (b ∷ bs) h =
-    let low : (b + 256 * number bs) % 256 ≡ b = omega (arith, h 0) in
-    let high : (b + 256 * number bs) / 256 ≡ number bs = omega (arith, h 0) in
-    let rest : bytesOf (length bs) (number bs) ≡ bs = bytesOf-number bs (λ i. h (suc i)) in
+    let low : (b + 256 * fromBytes bs) % 256 ≡ b = omega (arith, h 0) in
+    let high : (b + 256 * fromBytes bs) / 256 ≡ fromBytes bs = omega (arith, h 0) in
+    let rest : bytesOf (length bs) (fromBytes bs) ≡ bs = bytesOf-number bs (λ i. h (suc i)) in
     rw (low, high, rest)
 
 -- ---- a number byte by byte
@@ -60,7 +60,7 @@ fetched zero at bytes = 0
 fetched (suc k) at bytes = getD bytes at 0 + 256 * fetched k (suc at) bytes
 
 pub numberAt-fetched : (k at : ℕ) (bytes : List ℕ) → at + k ≤ length bytes → numberAt k at bytes ≡ fetched k at bytes
-unfolding numberAt number
+unfolding numberAt fromBytes
 numberAt-fetched zero at bytes h = refl
 numberAt-fetched (suc k) at bytes h =
     let first : at < length bytes = omega arith in
@@ -99,7 +99,7 @@ pub numberAt-placed-before : (k from at : ℕ) (xs row : List ℕ) → from + k 
 unfolding numberAt placed
 numberAt-placed-before k from at xs row h inside =
     let front : from + k ≤ length (take at row) = simp (length-take-le at row inside) h in
-    ap number
+    ap fromBytes
     (simp append-assoc (part-front k from (take at row) (xs ++ drop (at + length xs) row) front)
     ∙ sym (part-front k from (take at row) (drop at row) front)
     ∙ ap (λ (l : List ℕ). take k (drop from l)) (take-append-drop at row))
@@ -113,7 +113,7 @@ numberAt-placed-after k from at xs row h inside =
     let past : ℕ = from - n in
     let way : from ≡ n + past = omega arith in
     let head : length (take at row ++ xs) ≡ n = simp (length-append, length-take-le at row inside) in
-    ap (λ (l : List ℕ). number (take k l))
+    ap (λ (l : List ℕ). fromBytes (take k l))
     (ap (λ (m : ℕ). drop m (placed at xs row)) (way ∙ ap (λ (m : ℕ). m + past) (sym head))
     ∙ drop-append-add (take at row ++ xs) (drop n row) past
     ∙ drop-drop past n row

@@ -6,9 +6,9 @@ use lib.ListN.{take, drop, getD}
 
 -- the number that bytes make, the low byte first: each later byte counts 256 times what the one before it counts.
 -- Document 01, 'The job file': "All numbers are little-endian, 16 bits except table words."
-unfoldable pub number : List ℕ → ℕ
-number [] = 0
-number (b ∷ bs) = b + 256 * number bs
+unfoldable pub fromBytes : List ℕ → ℕ
+fromBytes [] = 0
+fromBytes (b ∷ bs) = b + 256 * fromBytes bs
 
 -- the k low bytes of the number x, the lowest first
 unfoldable pub bytesOf : ℕ → ℕ → List ℕ
@@ -17,7 +17,7 @@ bytesOf (suc k) x = x % 256 ∷ bytesOf k (x / 256)
 
 -- the number that k bytes make, from place `at` on
 unfoldable pub numberAt : ℕ → ℕ → List ℕ → ℕ
-numberAt k at bytes = number (take k (drop at bytes))
+numberAt k at bytes = fromBytes (take k (drop at bytes))
 
 -- every entry is a byte; past the end getD answers 0, which is one
 abbrev pub AllBytes : List ℕ → Type 0

@@ -1,2 +1,3 @@
--- What the layout scan's contract means. The other contracts cite crate table's definitions.
+-- What a reader must believe of the layout scan (Layout). Steps has what its private steps promise each other.
 pub mod Layout
+pub mod Steps

@@ -3,7 +3,8 @@
 ghost use mathlib.Core.Path.{_≡_};
 ghost use lib.ListN.{drop};
 ghost use Rattle.table.specs.Layout.{item, canStand, less, more as moreOf, after as afterWord, atEnd, breakFrom};
-ghost use Rattle.shape.specs.Layout.{wantedOf, breakOf};
+ghost use Rattle.shape.specs.Layout.{breakOf};
+ghost use Rattle.shape.specs.Steps.Wanted.{wantedOf};
 use words::kind;
 use words::kind::Kind;
 use words::word;

@@ -47,7 +47,7 @@ goodList t list =
 -- ---- certificates
 
 -- A log, and ranks for the row that it ends in.
-pub record Settled : Type 0 where
+pub record RowSettled : Type 0 where
   pub log : List Join
   pub ranks : List ℕ
 
@@ -56,18 +56,18 @@ pub data Certificate : Type 0 where
   -- ways down from a node back to it
   loop : List Down → Certificate
   -- the whole list settled
-  settles : Settled → Certificate
+  settles : RowSettled → Certificate
   -- the pairs before a place settled; a log of the pairs up to it; two nodes that it joins
-  clash : ℕ → Settled → List Join → ℕ → ℕ → Certificate
+  clash : ℕ → RowSettled → List Join → ℕ → ℕ → Certificate
   -- the pairs before a place settled; a log of the pairs up to it; ways down from a class back to it
-  cycle : ℕ → Settled → List Join → List Down → Certificate
+  cycle : ℕ → RowSettled → List Join → List Down → Certificate
 
 unfoldable pub endsIn : Replayed → (List ℕ → Bool) → Bool
 endsIn (falseAt k) test = false
 endsIn (ends row) test = test row
 
 -- the log ends in a closed row, with ranks that fall from class to class
-unfoldable pub settled : {S : Symbols} → Graph S → List Pair → Settled → (List ℕ → Bool) → Bool
+unfoldable pub settled : {S : Symbols} → Graph S → List Pair → RowSettled → (List ℕ → Bool) → Bool
 settled G pairs s test = endsIn (replay G pairs (s .log)) (λ row. closed G pairs row and ranked G row (s .ranks) and test row)
 
 -- ---- the test of a row
@@ -94,7 +94,7 @@ unfoldable pub makes : Example → List ℕ → Bool
 makes e row = sameRow row (e .entries) and eqb (joins (graphIn e) row) (e .joins)
 
 -- the pairs before a place are settled, and nothing else is wrong
-unfoldable pub settledBefore : Example → ℕ → Settled → Bool
+unfoldable pub settledBefore : Example → ℕ → RowSettled → Bool
 settledBefore e i s =
     goodTable (e .table) and goodList (e .table) (e .list) and nothingMade e and ltb i (length (pairsIn e)) and settled (graphIn e) (take i (pairsIn e)) s (λ row. true)
 

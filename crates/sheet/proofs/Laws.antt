@@ -31,8 +31,8 @@ use Rattle.table.proofs.Shape.{inside-kind}
 use Rattle.checker.proofs.Stages.{shaped-none}
 use Rattle.matcher.specs.Match.{Passes}
 use Rattle.matcher.proofs.Verdicts.{ready, list-so-far, accepted-answered, clash-answered, cycle-answered}
-use Rattle.sheet.specs.Sheet.{Example, jobWith, Holds}
-use Rattle.sheet.proofs.Certified.{isNone, repeatsAt, goodTable, goodList, Settled, Certificate, loop, settles, clash, cycle, endsIn, settled, sameRow, answers, nothingMade, graphIn, pairsIn, makes, settledBefore, passes, allPass}
+use Rattle.sheet.specs.Sheet.{Example, jobWith, RowHolds}
+use Rattle.sheet.proofs.Certified.{isNone, repeatsAt, goodTable, goodList, RowSettled, Certificate, loop, settles, clash, cycle, endsIn, settled, sameRow, answers, nothingMade, graphIn, pairsIn, makes, settledBefore, passes, allPass}
 
 -- ---- tests and what they show
 
@@ -168,14 +168,14 @@ loop-answered job free x s = none-first number (Fault job) beforeLoop (LOOP ∷ 
 -- ---- a settled list
 
 -- what a settled list has
-record Settles {S : Symbols} (G : Graph S) (pairs : List Pair) (s : Settled) (test : List ℕ → Bool) : Type 0 where
+record Settles {S : Symbols} (G : Graph S) (pairs : List Pair) (s : RowSettled) (test : List ℕ → Bool) : Type 0 where
   pub row : List ℕ
   pub replayed : replay G pairs (s .log) ≡ ends row
   pub shut : closed G pairs row ≡ true
   pub falls : ranked G row (s .ranks) ≡ true
   pub tested : test row ≡ true
 
-settled-shown : {S : Symbols} (G : Graph S) (pairs : List Pair) (s : Settled) (test : List ℕ → Bool) → settled G pairs s test ≡ true → Settles G pairs s test
+settled-shown : {S : Symbols} (G : Graph S) (pairs : List Pair) (s : RowSettled) (test : List ℕ → Bool) → settled G pairs s test ≡ true → Settles G pairs s test
 unfolding settled
 settled-shown G pairs s test t =
     let found : (row : List ℕ) × (replay G pairs (s .log) ≡ ends row) × ((closed G pairs row and ranked G row (s .ranks) and test row) ≡ true) =
@@ -208,13 +208,13 @@ module _ (e : Example) (sent : Sent (e .table)) (list : goodList (e .table) (e .
   sides-to : (k : ℕ) → Sides (graphIn e) (take k (pairsIn e))
   sides-to k p m = sides p (list-so-far least k p m)
 
-  settles-no-clash : {pairs : List Pair} {s : Settled} {test : List ℕ → Bool} → Sides (graphIn e) pairs → Settles (graphIn e) pairs s test → Clash (graphIn e) pairs → ⊥
+  settles-no-clash : {pairs : List Pair} {s : RowSettled} {test : List ℕ → Bool} → Sides (graphIn e) pairs → Settles (graphIn e) pairs s test → Clash (graphIn e) pairs → ⊥
   settles-no-clash {pairs} {s} on found = log-no-clash formed on (s .log) (found .replayed) (found .shut)
 
-  settles-no-cycle : {pairs : List Pair} {s : Settled} {test : List ℕ → Bool} → Sides (graphIn e) pairs → Settles (graphIn e) pairs s test → Cycle (graphIn e) pairs → ⊥
+  settles-no-cycle : {pairs : List Pair} {s : RowSettled} {test : List ℕ → Bool} → Sides (graphIn e) pairs → Settles (graphIn e) pairs s test → Cycle (graphIn e) pairs → ⊥
   settles-no-cycle {pairs} {s} on found = log-no-cycle formed on (s .log) (found .replayed) (found .shut) (s .ranks) (found .falls)
 
-  settles-holds : (s : Settled) → answers e 0 0 ≡ true → Settles (graphIn e) (pairsIn e) s (makes e) → Holds e
+  settles-holds : (s : RowSettled) → answers e 0 0 ≡ true → Settles (graphIn e) (pairsIn e) s (makes e) → RowHolds e
   unfolding makes
   settles-holds s said found =
       let rows : found .row ≡ e .entries = same-row (found .row) (e .entries) (both-true (found .tested) .0) in
@@ -234,7 +234,7 @@ module _ (e : Example) (sent : Sent (e .table)) (list : goodList (e .table) (e .
 -- A refused row holds if its answer is the table of numbers' and it has neither entries nor joins.
 refused-holds : (e : Example) (a p : ℕ) → 0 < a → answers e a p ≡ true → nothingMade e ≡ true
     → ((class-room work-room : ℕ) → length (e .table) ≤ class-room → 4 * length (e .table) ≤ work-room → Answered number (Fault (jobWith e class-room work-room)) matchOrder a p)
-    → Holds e
+    → RowHolds e
 refused-holds e a p positive said made answered =
     record {
       answered = λ c w class-enough work-enough. as-said e (jobWith e c w) a p said (answered c w class-enough work-enough);
@@ -243,14 +243,14 @@ refused-holds e a p positive said made answered =
     }
 
 -- what a list has that is settled before a place
-record Before (e : Example) (i : ℕ) (s : Settled) : Type 0 where
+record Before (e : Example) (i : ℕ) (s : RowSettled) : Type 0 where
   pub sent : Sent (e .table)
   pub list : goodList (e .table) (e .list) ≡ true
   pub made : nothingMade e ≡ true
   pub within : i < length (pairsIn e)
   pub found : Settles (graphIn e) (take i (pairsIn e)) s (λ row. true)
 
-before-shown : (e : Example) (i : ℕ) (s : Settled) → settledBefore e i s ≡ true → Before e i s
+before-shown : (e : Example) (i : ℕ) (s : RowSettled) → settledBefore e i s ≡ true → Before e i s
 unfolding settledBefore
 before-shown e i s t =
     record {
@@ -261,12 +261,12 @@ before-shown e i s t =
       found = settled-shown (graphIn e) (take i (pairsIn e)) s (λ row. true) (both-true (both-true (both-true (both-true t .1) .1) .1) .1);
     }
 
-module _ (e : Example) (i : ℕ) (s : Settled) (b : Before e i s) (log : List Join) where
+module _ (e : Example) (i : ℕ) (s : RowSettled) (b : Before e i s) (log : List Join) where
   no-loop-before : (x : ℕ) → Steps (Child (graphIn e)) x x → ⊥
   no-loop-before = no-loop-in e (b .found .row) (s .ranks) (b .found .falls)
 
   clash-holds : (x y : ℕ) → answers e 10 (i + 1) ≡ true
-      → endsIn (replay (graphIn e) (take (i + 1) (pairsIn e)) log) (λ row. clashes (graphIn e) row x y) ≡ true → Holds e
+      → endsIn (replay (graphIn e) (take (i + 1) (pairsIn e)) log) (λ row. clashes (graphIn e) row x y) ≡ true → RowHolds e
   clash-holds x y said met =
       let end : (row : List ℕ) × (replay (graphIn e) (take (i + 1) (pairsIn e)) log ≡ ends row) × (clashes (graphIn e) row x y ≡ true) =
       ends-in (replay (graphIn e) (take (i + 1) (pairsIn e)) log) (λ row. clashes (graphIn e) row x y) met in
@@ -278,7 +278,7 @@ module _ (e : Example) (i : ℕ) (s : Settled) (b : Before e i s) (log : List Jo
       (settles-no-cycle e (b .sent) (b .list) no-loop-before (sides-to e (b .sent) (b .list) no-loop-before i) (b .found)))
 
   cycle-holds : (ways : List Down) → answers e 11 (i + 1) ≡ true
-      → endsIn (replay (graphIn e) (take (i + 1) (pairsIn e)) log) (λ row. closed (graphIn e) (take (i + 1) (pairsIn e)) row and cycles (graphIn e) row ways) ≡ true → Holds e
+      → endsIn (replay (graphIn e) (take (i + 1) (pairsIn e)) log) (λ row. closed (graphIn e) (take (i + 1) (pairsIn e)) row and cycles (graphIn e) row ways) ≡ true → RowHolds e
   cycle-holds ways said met =
       let end : (row : List ℕ) × (replay (graphIn e) (take (i + 1) (pairsIn e)) log ≡ ends row) × ((closed (graphIn e) (take (i + 1) (pairsIn e)) row and cycles (graphIn e) row ways) ≡ true) =
       ends-in (replay (graphIn e) (take (i + 1) (pairsIn e)) log) (λ row. closed (graphIn e) (take (i + 1) (pairsIn e)) row and cycles (graphIn e) row ways) met in
@@ -291,7 +291,7 @@ module _ (e : Example) (i : ℕ) (s : Settled) (b : Before e i s) (log : List Jo
 
 -- ---- the row by its certificate
 
-pub passes-holds : (e : Example) (c : Certificate) → passes e c ≡ true → Holds e
+pub passes-holds : (e : Example) (c : Certificate) → passes e c ≡ true → RowHolds e
 unfolding passes
 passes-holds e (loop ways) t =
     let sent : Sent (e .table) = good-sent (e .table) (both-true (both-true t .1) .0) in
@@ -312,9 +312,9 @@ passes-holds e (cycle i before log ways) t =
 
 -- ---- the whole list
 
-pub all-pass-hold : (es : List Example) (cs : List Certificate) → allPass es cs ≡ true → (e : Example) → List·Memᴰ e es → Holds e
+pub all-pass-hold : (es : List Example) (cs : List Certificate) → allPass es cs ≡ true → (e : Example) → List·Memᴰ e es → RowHolds e
 unfolding allPass
 all-pass-hold es [] t e (List·Memᴰ·head {x = f} {xs = rest} q) = never (cc)
 all-pass-hold es [] t e (List·Memᴰ·tail {x = f} {xs = rest} m) = never (cc)
-all-pass-hold es (c ∷ cs) t e (List·Memᴰ·head {x = f} {xs = rest} q) = subst Holds (sym q) (passes-holds f c (both-true t .0))
+all-pass-hold es (c ∷ cs) t e (List·Memᴰ·head {x = f} {xs = rest} q) = subst RowHolds (sym q) (passes-holds f c (both-true t .0))
 all-pass-hold es (c ∷ cs) t e (List·Memᴰ·tail {x = f} {xs = rest} m) = all-pass-hold rest cs (both-true t .1) e m

@@ -20,11 +20,11 @@ use Rattle.table.specs.Layout.{canStand, after, atEnd, breakFrom}
 use Rattle.table.specs.Faults.{badKind, badLater, badTarget, odd, number, Fault, matchOrder}
 use Rattle.table.proofs.OneAnswer.{fault-once}
 use Rattle.matcher.specs.declared.answer.Matched.{Matched}
-use Rattle.matcher.specs.Match.{numberOf, placeOf, joinsOf, Bound, jobOf, MatchOf}
+use Rattle.matcher.specs.Match.{numberOf, placeOf, joinsOf, AcceptedWith, jobOf, MatchOf}
 use Rattle.matcher.proofs.OneMatch.{refused-joins}
-use Rattle.sheet.specs.Sheet.{Example, examples, Holds}
+use Rattle.sheet.specs.Sheet.{Example, examples, RowHolds}
 use Rattle.sheet.specs.Matcher.{Gives}
-use Rattle.sheet.proofs.Certified.{isNone, repeatsAt, goodTable, goodList, Settled, Certificate, loop, settles, clash, cycle, endsIn, settled, sameRow, answers, nothingMade, makes, settledBefore, passes, allPass}
+use Rattle.sheet.proofs.Certified.{isNone, repeatsAt, goodTable, goodList, RowSettled, Certificate, loop, settles, clash, cycle, endsIn, settled, sameRow, answers, nothingMade, makes, settledBefore, passes, allPass}
 use Rattle.sheet.proofs.Laws.{all-pass-hold}
 
 -- ---- certificates
@@ -39,7 +39,7 @@ by-place f g place left right = record { left = left; right = right; ground = ch
 down : ℕ → ℕ → Down
 down parent child = record { parent = parent; child = child }
 
-with-ranks : List ℕ → List Join → Settled
+with-ranks : List ℕ → List Join → RowSettled
 with-ranks ranks log = record { log = log; ranks = ranks }
 
 -- in the order of the sheet
@@ -65,19 +65,19 @@ unfolding certificates by-pair by-place down with-ranks decide ℕ-discrete kind
 tested = refl
 
 -- Each row of the sheet says what the definitions give.
-pub sheet-holds : (e : Example) → List·Memᴰ e examples → Holds e
+pub sheet-holds : (e : Example) → List·Memᴰ e examples → RowHolds e
 sheet-holds = all-pass-hold examples certificates tested
 
 -- ---- what a match gives
 
-module _ {e : Example} (h : Holds e) {class work : List ℕ} (class-enough : length (e .table) ≤ length class) (work-enough : 4 * length (e .table) ≤ length work) {r : Matched} {class-after work-after : List ℕ} (m : MatchOf (e .table) (e .list) class work r class-after work-after) where
+module _ {e : Example} (h : RowHolds e) {class work : List ℕ} (class-enough : length (e .table) ≤ length class) (work-enough : 4 * length (e .table) ≤ length work) {r : Matched} {class-after work-after : List ℕ} (m : MatchOf (e .table) (e .list) class work r class-after work-after) where
   same-numbers : (numberOf r ≡ e .answer) × (placeOf r ≡ e .place)
   same-numbers =
       answered-only number (Fault (jobOf (e .table) (e .list) class work)) (fault-once (jobOf (e .table) (e .list) class work)) matchOrder (numberOf r) (placeOf r) (e .answer) (e .place)
       (m .answered)
       (h .answered (length class) (length work) class-enough work-enough)
 
-  bound-of : e .answer ≡ 0 → Bound (e .table) (e .list) class class-after (joinsOf r)
+  bound-of : e .answer ≡ 0 → AcceptedWith (e .table) (e .list) class class-after (joinsOf r)
   bound-of z = m .bound (same-numbers .0 ∙ z)
 
   same-table : (z : e .answer ≡ 0) → bound-of z .table ≡ e .entries

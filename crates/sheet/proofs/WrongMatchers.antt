@@ -31,7 +31,7 @@ use Rattle.matcher.specs.Match.{numberOf, placeOf, joinsOf, jobOf, Passes}
 use Rattle.matcher.specs.Demands.{Met}
 use Rattle.matcher.proofs.Demands.{accepted-exactly, answer-makes-equal}
 use Rattle.sheet.specs.Sheet.{Example, refused, exampleC, examples}
-use Rattle.sheet.specs.Matcher.{Matcher, Below, Lent, Meets, Gives}
+use Rattle.sheet.specs.Matcher.{Matcher, Below, Lendable, MeetsContract, Gives}
 use Rattle.sheet.proofs.Theorems.{sheet-holds, sheet-matched}
 
 -- ---- what a matcher gives at a row of the sheet
@@ -57,10 +57,10 @@ class-of e = replicate (length (e .table)) 0
 abbrev work-of : Example → List ℕ
 work-of e = replicate (4 * length (e .table)) 0
 
-fit-lent : (es : List Example) → fit es ≡ true → (e : Example) → List·Memᴰ e es → Lent (e .table) (e .list) (class-of e) (work-of e)
+fit-lent : (es : List Example) → fit es ≡ true → (e : Example) → List·Memᴰ e es → Lendable (e .table) (e .list) (class-of e) (work-of e)
 unfolding fit
 fit-lent es t e (List·Memᴰ·head {x = f} {xs = rest} q) =
-    subst (λ (g : Example). Lent (g .table) (g .list) (class-of g) (work-of g)) (sym q)
+    subst (λ (g : Example). Lendable (g .table) (g .list) (class-of g) (work-of g)) (sym q)
     (record {
       words = all-under 4294967296 (f .table) (both-true (both-true t .0) .0);
       sides = all-under 65536 (f .list) (both-true (both-true t .0) .1);
@@ -70,14 +70,14 @@ fit-lent es t e (List·Memᴰ·head {x = f} {xs = rest} q) =
 fit-lent es t e (List·Memᴰ·tail {x = f} {xs = rest} m) = fit-lent rest (both-true t .1) e m
 
 -- every row of the sheet can be lent
-row-lent : (e : Example) → List·Memᴰ e examples → Lent (e .table) (e .list) (class-of e) (work-of e)
+row-lent : (e : Example) → List·Memᴰ e examples → Lendable (e .table) (e .list) (class-of e) (work-of e)
 unfolding fit allUnder allBelow _and_
 row-lent = fit-lent examples refl
 
 abbrev run : Matcher → Example → Matched × List ℕ × List ℕ
 run m e = m (e .table) (e .list) (class-of e) (work-of e)
 
-at-row : (m : Matcher) → Meets m → (e : Example) → List·Memᴰ e examples → Gives e (run m e .0) (run m e .1)
+at-row : (m : Matcher) → MeetsContract m → (e : Example) → List·Memᴰ e examples → Gives e (run m e .0) (run m e .1)
 at-row m meets e row =
     sheet-matched e row (omega (arith, length-replicate {A = ℕ} (length (e .table)) 0)) (omega (arith, length-replicate {A = ℕ} (4 * length (e .table)) 0))
     (meets (e .table) (e .list) (class-of e) (work-of e) (row-lent e row))
@@ -125,18 +125,18 @@ is-p7 = is-row 6 (omega arith)
 -- ---- "a matcher that refuses every list (demand 3 shuts it out, by any pair with a unifier)"
 
 -- It is enough that it refuses one list, of a job that passes all checks, whose pairs some replacement makes equal.
-pub refuses-a-met-list : (m : Matcher) {t list class work : List ℕ} → Lent t list class work → Passes (jobOf t list class work) → Met (graphOf t) (pairsOf list)
-    → (numberOf (m t list class work .0) ≡ 0 → ⊥) → Meets m → ⊥
+pub refuses-a-met-list : (m : Matcher) {t list class work : List ℕ} → Lendable t list class work → Passes (jobOf t list class work) → Met (graphOf t) (pairsOf list)
+    → (numberOf (m t list class work .0) ≡ 0 → ⊥) → MeetsContract m → ⊥
 refuses-a-met-list m {t} {list} {class} {work} lent passes met refuses meets = refuses (accepted-exactly (meets t list class work lent) passes .1 met)
 
-pub refuses-every-list : (m : Matcher) → ((t list class work : List ℕ) → Lent t list class work → numberOf (m t list class work .0) ≡ 0 → ⊥) → Meets m → ⊥
+pub refuses-every-list : (m : Matcher) → ((t list class work : List ℕ) → Lendable t list class work → numberOf (m t list class work .0) ≡ 0 → ⊥) → MeetsContract m → ⊥
 refuses-every-list m refuses meets = refuses (p4 .table) (p4 .list) (class-of p4) (work-of p4) (row-lent p4 is-p4) (at-row m meets p4 is-p4 .the-answer)
 
 -- ---- "one that returns one fixed table (demand 2, P1 against P4)"
 
 pub one-fixed-table : (m : Matcher) (fixed : ℕ → ℕ)
-    → ((t list class work : List ℕ) → Lent t list class work → numberOf (m t list class work .0) ≡ 0 → (x : ℕ) → x < length t → getD (m t list class work .1) x 0 ≡ fixed x)
-    → Meets m
+    → ((t list class work : List ℕ) → Lendable t list class work → numberOf (m t list class work .0) ≡ 0 → (x : ℕ) → x < length t → getD (m t list class work .1) x 0 ≡ fixed x)
+    → MeetsContract m
     → ⊥
 one-fixed-table m fixed returns meets =
     let one : Gives p1 (run m p1 .0) (run m p1 .1) = at-row m meets p1 is-p1 in
@@ -149,8 +149,8 @@ one-fixed-table m fixed returns meets =
 
 -- Nor may it return one fixed table for each table of words, whatever the list: P4 against P7.
 pub one-table-for-all-lists : (m : Matcher) (fixed : List ℕ → ℕ → ℕ)
-    → ((t list class work : List ℕ) → Lent t list class work → numberOf (m t list class work .0) ≡ 0 → (x : ℕ) → x < length t → getD (m t list class work .1) x 0 ≡ fixed t x)
-    → Meets m
+    → ((t list class work : List ℕ) → Lendable t list class work → numberOf (m t list class work .0) ≡ 0 → (x : ℕ) → x < length t → getD (m t list class work .1) x 0 ≡ fixed t x)
+    → MeetsContract m
     → ⊥
 one-table-for-all-lists m fixed returns meets =
     let four : Gives p4 (run m p4 .0) (run m p4 .1) = at-row m meets p4 is-p4 in
@@ -165,8 +165,8 @@ one-table-for-all-lists m fixed returns meets =
 
 -- Whatever else it does, where it accepts it leaves the class entries in use at 0.
 pub clears-and-accepts : (m : Matcher)
-    → ((t list class work : List ℕ) → Lent t list class work → numberOf (m t list class work .0) ≡ 0 → m t list class work .1 ≡ zeroed (length t) class)
-    → Meets m
+    → ((t list class work : List ℕ) → Lendable t list class work → numberOf (m t list class work .0) ≡ 0 → m t list class work .1 ≡ zeroed (length t) class)
+    → MeetsContract m
     → ⊥
 clears-and-accepts m clears meets =
     let four : Gives p4 (run m p4 .0) (run m p4 .1) = at-row m meets p4 is-p4 in
@@ -187,8 +187,8 @@ unfolding number
 accepted-passes {job} answered = none-parts (Fault job) (checkOrder ++ listRows) pairRows (passed-none number (Fault job) matchOrder 0 0 refl refl answered .0) .0
 
 pub clears-and-accepts-unequal : (m : Matcher)
-    → ((t list class work : List ℕ) → Lent t list class work → numberOf (m t list class work .0) ≡ 0 → m t list class work .1 ≡ zeroed (length t) class)
-    → Meets m
+    → ((t list class work : List ℕ) → Lendable t list class work → numberOf (m t list class work .0) ≡ 0 → m t list class work .1 ≡ zeroed (length t) class)
+    → MeetsContract m
     → ⊥
 clears-and-accepts-unequal m clears meets =
     let four : Gives p4 (run m p4 .0) (run m p4 .1) = at-row m meets p4 is-p4 in
@@ -201,7 +201,7 @@ clears-and-accepts-unequal m clears meets =
 -- ---- "one that joins all at pair 1 and lets later pairs pass (demand 2 fixes the place, P5)"
 
 -- It never reports a clash or a cycle at a later pair than the first.
-pub joins-all-at-pair-1 : (m : Matcher) → ((t list class work : List ℕ) → Lent t list class work → 10 ≤ numberOf (m t list class work .0) → placeOf (m t list class work .0) ≤ 1) → Meets m → ⊥
+pub joins-all-at-pair-1 : (m : Matcher) → ((t list class work : List ℕ) → Lendable t list class work → 10 ≤ numberOf (m t list class work .0) → placeOf (m t list class work .0) ≤ 1) → MeetsContract m → ⊥
 joins-all-at-pair-1 m at-first meets =
     let five : Gives p5 (run m p5 .0) (run m p5 .1) = at-row m meets p5 is-p5 in
     let number-there : numberOf (run m p5 .0) ≡ 10 = five .the-answer in
@@ -211,9 +211,9 @@ joins-all-at-pair-1 m at-first meets =
 
 -- It accepts whatever follows a first pair that it accepts.
 pub later-pairs-pass : (m : Matcher)
-    → ((t : List ℕ) (left right : ℕ) (rest class work : List ℕ) → Lent t (left ∷ right ∷ rest) class work
+    → ((t : List ℕ) (left right : ℕ) (rest class work : List ℕ) → Lendable t (left ∷ right ∷ rest) class work
     → numberOf (m t (left ∷ right ∷ []) class work .0) ≡ 0 → numberOf (m t (left ∷ right ∷ rest) class work .0) ≡ 0)
-    → Meets m
+    → MeetsContract m
     → ⊥
 later-pairs-pass m later meets =
     let four : Gives p4 (run m p4 .0) (run m p4 .1) = at-row m meets p4 is-p4 in
@@ -225,15 +225,15 @@ later-pairs-pass m later meets =
 -- ---- "one that makes up joins (nodes less classes)"
 
 -- Where it accepts, joins that are not the number of nodes less the number of classes are not allowed.
-pub makes-up-joins : (m : Matcher) {t list class work : List ℕ} → Lent t list class work → {table : List ℕ} → ClassTable (graphOf t) (pairsOf list) table
-    → numberOf (m t list class work .0) ≡ 0 → (joinsOf (m t list class work .0) ≡ joins (graphOf t) table → ⊥) → Meets m → ⊥
+pub makes-up-joins : (m : Matcher) {t list class work : List ℕ} → Lendable t list class work → {table : List ℕ} → ClassTable (graphOf t) (pairsOf list) table
+    → numberOf (m t list class work .0) ≡ 0 → (joinsOf (m t list class work .0) ≡ joins (graphOf t) table → ⊥) → MeetsContract m → ⊥
 makes-up-joins m {t} {list} {class} {work} lent c z other meets =
     other (meets t list class work lent .bound z .joins-counted ∙ ap (joins (graphOf t)) (class-table-only (meets t list class work lent .bound z .class-table) c))
 
 -- Nor may they be made up from the number of pairs: P1 against P4.
 pub joins-by-pairs : (m : Matcher) (made-up : ℕ → ℕ)
-    → ((t list class work : List ℕ) → Lent t list class work → numberOf (m t list class work .0) ≡ 0 → joinsOf (m t list class work .0) ≡ made-up (length list))
-    → Meets m
+    → ((t list class work : List ℕ) → Lendable t list class work → numberOf (m t list class work .0) ≡ 0 → joinsOf (m t list class work .0) ≡ made-up (length list))
+    → MeetsContract m
     → ⊥
 joins-by-pairs m made-up says meets =
     let one : Gives p1 (run m p1 .0) (run m p1 .1) = at-row m meets p1 is-p1 in

@@ -17,15 +17,15 @@ abbrev pub Below : ℕ → List ℕ → Type 0
 Below bound row = (i : ℕ) → i < length row → getD row i 0 < bound
 
 -- What can be lent to a match: "n words of 32 bits", "16-bit addresses", "Class and work entries are 16 bits".
-pub record Lent (t list class work : List ℕ) : Type 0 where
+pub record Lendable (t list class work : List ℕ) : Type 0 where
   pub words : Below 4294967296 t
   pub sides : Below 65536 list
   pub class-entries : Below 65536 class
   pub work-entries : Below 65536 work
 
 -- A matcher meets the contract if it does on all that can be lent.
-abbrev pub Meets : Matcher → Type 0
-Meets m = (t list class work : List ℕ) → Lent t list class work → MatchOf t list class work (m t list class work .0) (m t list class work .1) (m t list class work .2)
+abbrev pub MeetsContract : Matcher → Type 0
+MeetsContract m = (t list class work : List ℕ) → Lendable t list class work → MatchOf t list class work (m t list class work .0) (m t list class work .1) (m t list class work .2)
 
 -- The answer and the class entries of a match are those of a row.
 pub record Gives (e : Example) (answer : Matched) (class-after : List ℕ) : Type 0 where

@@ -32,14 +32,14 @@ count k = wordOf (tagNumber Kind.Count) k
 -- ---- tables
 
 -- "Word 0 is the number 0": the items stand behind it.
-abbrev pub tableOf : List ℕ → List ℕ
-tableOf items = 0 ∷ items
+abbrev pub tableWith : List ℕ → List ℕ
+tableWith items = 0 ∷ items
 
 -- "Example A, addresses 1 to 16 (n = 17): function 1, count 3, variable 1, variable 2, pointer 6; function 2, count 1, pointer 3;
 -- function 1, count 3, constant 3, pointer 14, pointer 4; function 2, count 1, variable 3."
 abbrev pub exampleA : List ℕ
 exampleA =
-    tableOf
+    tableWith
     (function 1 ∷ count 3 ∷ variable 1 ∷ variable 2 ∷ pointer 6
     ∷ function 2 ∷ count 1 ∷ pointer 3
     ∷ function 1 ∷ count 3 ∷ constant 3 ∷ pointer 14 ∷ pointer 4
@@ -47,16 +47,16 @@ exampleA =
 
 -- "Example B (n = 4): function 1, count 1, variable 1."
 abbrev pub exampleB : List ℕ
-exampleB = tableOf (function 1 ∷ count 1 ∷ variable 1 ∷ [])
+exampleB = tableWith (function 1 ∷ count 1 ∷ variable 1 ∷ [])
 
 -- "Example C (n = 4): constant 1, constant 2, variable 1."
 abbrev pub exampleC : List ℕ
-exampleC = tableOf (constant 1 ∷ constant 2 ∷ variable 1 ∷ [])
+exampleC = tableWith (constant 1 ∷ constant 2 ∷ variable 1 ∷ [])
 
 -- Document 000, Fig. 4 (b), addresses 1 to 15, with numbers for its labels: f is 1, g is 2, a is 3; X1, X2, Y1, Y2 are 1 to 4.
 abbrev pub figure4b : List ℕ
 figure4b =
-    tableOf
+    tableWith
     (function 1 ∷ count 4 ∷ variable 1 ∷ variable 2 ∷ constant 3 ∷ pointer 3
     ∷ function 1 ∷ count 4 ∷ constant 3 ∷ pointer 13 ∷ variable 4 ∷ pointer 11
     ∷ function 2 ∷ count 1 ∷ variable 3 ∷ [])
@@ -97,11 +97,11 @@ examples =
     ∷ accepted exampleC [] (0 ∷ 1 ∷ 2 ∷ 3 ∷ []) 0
     -- "P8. Function 1, count 2, variable 1, constant 1; function 1, count 2, pointer 1, constant 2; pair (1,5): both faults in one
     -- pair, 10, place 1."
-    ∷ refused (tableOf (function 1 ∷ count 2 ∷ variable 1 ∷ constant 1 ∷ function 1 ∷ count 2 ∷ pointer 1 ∷ constant 2 ∷ [])) (1 ∷ 5 ∷ []) 10 1
+    ∷ refused (tableWith (function 1 ∷ count 2 ∷ variable 1 ∷ constant 1 ∷ function 1 ∷ count 2 ∷ pointer 1 ∷ constant 2 ∷ [])) (1 ∷ 5 ∷ []) 10 1
     -- "P9. Function 5, count 1, variable 1; function 5, count 2, variable 2, variable 3; pair (1,4): 10, place 1."
-    ∷ refused (tableOf (function 5 ∷ count 1 ∷ variable 1 ∷ function 5 ∷ count 2 ∷ variable 2 ∷ variable 3 ∷ [])) (1 ∷ 4 ∷ []) 10 1
+    ∷ refused (tableWith (function 5 ∷ count 1 ∷ variable 1 ∷ function 5 ∷ count 2 ∷ variable 2 ∷ variable 3 ∷ [])) (1 ∷ 4 ∷ []) 10 1
     -- "P10. Function 1, count 1, pointer 1: 7, place 0."
-    ∷ refused (tableOf (function 1 ∷ count 1 ∷ pointer 1 ∷ [])) [] 7 0
+    ∷ refused (tableWith (function 1 ∷ count 1 ∷ pointer 1 ∷ [])) [] 7 0
     -- Document 000's example 1, Fig. 4 (b), pair (1,7): class entries 0 1 0 5 13 5 0 1 0 5 0 5 0 13 0 15, joins 5.
     ∷ accepted figure4b (1 ∷ 7 ∷ []) (0 ∷ 1 ∷ 0 ∷ 5 ∷ 13 ∷ 5 ∷ 0 ∷ 1 ∷ 0 ∷ 5 ∷ 0 ∷ 5 ∷ 0 ∷ 13 ∷ 0 ∷ 15 ∷ []) 5
     ∷ []
@@ -114,7 +114,7 @@ jobWith e class-room work-room = sent (e .table) (e .list) class-room work-room
 
 -- What a row says. Document 01's table of numbers gives the answer and the place, whatever room there is, so long as there is
 -- enough; an accepted list has the row's entries for its class table, and they make the row's joins; a refusal has neither.
-pub record Holds (e : Example) : Type 0 where
+pub record RowHolds (e : Example) : Type 0 where
   pub answered : (class-room work-room : ℕ) → length (e .table) ≤ class-room → 4 * length (e .table) ≤ work-room
       → Answered number (Fault (jobWith e class-room work-room)) matchOrder (e .answer) (e .place)
   pub if-accepted : e .answer ≡ 0 → ClassTable (graphOf (e .table)) (pairsOf (e .list)) (e .entries) × (joinsOf (graphOf (e .table)) (e .entries) ≡ e .joins)

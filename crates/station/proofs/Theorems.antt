@@ -14,11 +14,11 @@ use Rattle.checker.proofs.OneCheck.{check-only}
 use Rattle.matcher.specs.Match.{numberOf, placeOf, joinsOf}
 use Rattle.matcher.specs.declared.answer.Matched.{Matched}
 use Rattle.matcher.proofs.OneMatch.{match-only}
-use Rattle.jobfile.specs.Faults.{ROOM, number as fileNumber, readOrder}
+use Rattle.jobfile.specs.Faults.{ROOM, fileNumber, readOrder}
 use Rattle.jobfile.specs.Writer.{numberOf as writeNumber}
 use Rattle.jobfile.proofs.WriteAnswers.{write-only}
 use Rattle.host.specs.AsOne.{asOne}
-use Rattle.host.specs.Host.{tableOf, number, HostFault, hostOrder, reportOf, roomAfter, HostOf}
+use Rattle.host.specs.Host.{tableOf, hostNumber, HostFault, hostOrder, reportOf, roomAfter, HostOf}
 use Rattle.host.specs.Sizes.{SizesFault, SizesOf}
 use Rattle.host.proofs.ChoiceLaws.{host-once}
 use Rattle.host.proofs.SizesLaws.{sizes-once}
@@ -26,7 +26,7 @@ use Rattle.station.specs.Entries.{LentOf, CheckedOf, WrittenOf}
 
 module _ {bytes : List ℕ} {job : ℕ} {room : List ℕ} {r s : ℕ} {room₁ room₂ : List ℕ} (a : HostOf bytes job room r room₁) (b : HostOf bytes job room s room₂) where
   same-numbers : (r ≡ s) × (a .place ≡ b .place)
-  same-numbers = answered-only number (HostFault bytes job room) (host-once bytes job room) hostOrder r (a .place) s (b .place) (a .answered) (b .answered)
+  same-numbers = answered-only hostNumber (HostFault bytes job room) (host-once bytes job room) hostOrder r (a .place) s (b .place) (a .answered) (b .answered)
 
   joins-and-classes : Dec (r ≡ 0) → (a .joined ≡ b .joined) × (a .classes ≡ b .classes)
   joins-and-classes (yes z) =

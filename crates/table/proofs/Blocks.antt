@@ -37,18 +37,18 @@ pub record Arguments (row : List ℕ) (x k : ℕ) : Type 0 where
   pub stand : (i : ℕ) → i < k → isOneOf argumentKinds (kindIn row (x + i)) ≡ true
 
 -- At place x stands a count word k, and then k arguments.
-pub record Counted (row : List ℕ) (x : ℕ) : Type 0 where
+pub record CountAndArguments (row : List ℕ) (x : ℕ) : Type 0 where
   pub counts : kindIn row x ≡ Count
   pub arguments-follow : Arguments row (x + 1) (contentOf (getD row x 0))
 
 -- After each function word stand a count and the arguments.
 abbrev pub Blocks : List ℕ → Type 0
-Blocks row = (x : ℕ) → kindIn row x ≡ Function → Counted row (x + 1)
+Blocks row = (x : ℕ) → kindIn row x ≡ Function → CountAndArguments row (x + 1)
 
 -- what is known where `wanted` may stand first
 abbrev Begins : Wanted → List ℕ → Type 0
 Begins item row = Unit {0}
-Begins count row = Counted row 0
+Begins count row = CountAndArguments row 0
 Begins (arguments k) row = Arguments row 0 k
 
 move : (row : List ℕ) {i j : ℕ} → i ≡ j → isOneOf argumentKinds (kindIn row j) ≡ true → isOneOf argumentKinds (kindIn row i) ≡ true
@@ -63,7 +63,7 @@ shift-arguments w {rest} {x} {k} a =
       stand = λ i h. move (w ∷ rest) (let e : suc x + i ≡ suc (x + i) = omega arith in e) (a .stand i h);
     }
 
-shift-counted : (w : ℕ) {rest : List ℕ} {x : ℕ} → Counted rest x → Counted (w ∷ rest) (suc x)
+shift-counted : (w : ℕ) {rest : List ℕ} {x : ℕ} → CountAndArguments rest x → CountAndArguments (w ∷ rest) (suc x)
 shift-counted w {rest} {x} c =
     record {
       counts = c .counts;
@@ -89,7 +89,7 @@ begins-more : (k : ℕ) (row : List ℕ) → Begins (more k) row → Arguments r
 begins-more zero row b = none-here row 0 (omega arith)
 begins-more (suc k) row b = b
 
-begins-counted : (w : ℕ) (rest : List ℕ) → kindOf w ≡ Count → Begins (more (contentOf w)) rest → Counted (w ∷ rest) 0
+begins-counted : (w : ℕ) (rest : List ℕ) → kindOf w ≡ Count → Begins (more (contentOf w)) rest → CountAndArguments (w ∷ rest) 0
 begins-counted w rest e b =
     record {
       counts = e;
@@ -106,7 +106,7 @@ begins (arguments zero) w rest e b = none-here (w ∷ rest) 0 (omega arith)
 begins (arguments (suc k)) w rest e b = first-argument w e (begins-more k rest b)
 
 -- a function can stand only as an item, and a count is wanted after it
-function-first : (wanted : Wanted) (w : ℕ) (rest : List ℕ) → canStand wanted (kindOf w) ≡ true → kindOf w ≡ Function → Begins (after wanted w) rest → Counted rest 0
+function-first : (wanted : Wanted) (w : ℕ) (rest : List ℕ) → canStand wanted (kindOf w) ≡ true → kindOf w ≡ Function → Begins (after wanted w) rest → CountAndArguments rest 0
 unfolding canStand after
 function-first item w rest e f b = subst (λ (k : Kind). Begins (cond (sameKind k Function) count item) rest) f b
 function-first count w rest e f b = absurd (true≢false (sym e ∙ ap (canStand count) f))
@@ -127,10 +127,10 @@ whole-begins (w ∷ rest) wanted a e = go (canStand wanted (kindOf w)) refl (λ 
         let below : Begins (after wanted w) rest × Blocks rest = ih (sym (break-stands wanted a w rest s) ∙ e) in
         (begins wanted w rest s (below .0), at below)
       where
-        at : Begins (after wanted w) rest × Blocks rest → (x : ℕ) → kindIn (w ∷ rest) x ≡ Function → Counted (w ∷ rest) (x + 1)
+        at : Begins (after wanted w) rest × Blocks rest → (x : ℕ) → kindIn (w ∷ rest) x ≡ Function → CountAndArguments (w ∷ rest) (x + 1)
         at below zero f =
-            subst (Counted (w ∷ rest)) (let q : suc 0 ≡ 0 + 1 = omega arith in q)
+            subst (CountAndArguments (w ∷ rest)) (let q : suc 0 ≡ 0 + 1 = omega arith in q)
             (shift-counted w (function-first wanted w rest s f (below .0)))
         at below (suc x) f =
-            subst (Counted (w ∷ rest)) (let q : suc (x + 1) ≡ suc x + 1 = omega arith in q)
+            subst (CountAndArguments (w ∷ rest)) (let q : suc (x + 1) ≡ suc x + 1 = omega arith in q)
             (shift-counted w (below .1 x f))

@@ -25,7 +25,7 @@ use Rattle.table.specs.Layout.{item}
 use Rattle.table.specs.Faults.{badKind, badLater, badTarget}
 use Rattle.table.specs.Shaped.{Shaped}
 use Rattle.table.proofs.Leaves.{past-end}
-use Rattle.table.proofs.Blocks.{Arguments, Counted, Blocks, whole-begins}
+use Rattle.table.proofs.Blocks.{Arguments, CountAndArguments, Blocks, whole-begins}
 use Rattle.table.proofs.Children.{degree-function}
 
 fails : (test : Bool) → (test ≡ true → ⊥) → test ≡ false
@@ -70,7 +70,7 @@ module _ {t : List ℕ} (c : Shaped t) where
   block-arguments zero f = absurd (not-both kind-0 refl f)
   block-arguments (suc x) f =
       let e : wordAt (drop 1 t) x ≡ wordAt t (suc x) = behind x ∙ ap (wordAt t) (let q : x + 1 ≡ suc x = omega arith in q) in
-      let b : Counted (drop 1 t) (x + 1) = blocks x (ap kindOf e ∙ f) in
+      let b : CountAndArguments (drop 1 t) (x + 1) = blocks x (ap kindOf e ∙ f) in
       let n : wordAt (drop 1 t) (x + 1) ≡ wordAt t (suc x + 1) = behind (x + 1) ∙ ap (wordAt t) (let q : x + 1 + 1 ≡ suc x + 1 = omega arith in q) in
       let k : contentAt (drop 1 t) (x + 1) ≡ contentAt t (suc x + 1) = ap contentOf n in
       record {

@@ -5,7 +5,7 @@ use borrow.Author.Needs.{needs}
 use Rattle.table.specs.Faults.{shapeRows}
 use Rattle.table.proofs.Shape.{word-0}
 use Rattle.checker.specs.declared.answer.Checked.the-variants.{Accepted}
-use Rattle.checker.specs.Stages.{ByRows}
+use Rattle.checker.specs.Steps.Stage.{ByRows}
 use Rattle.checker.proofs.CheckLaws.{accepted-shaped, shape-refused, shape-passed, name-stage, none-repeats, names-passed, lent-later}
 use Rattle.checker.proofs.faults.through_all_rows.Statement.{statement}
 use Rattle.checker.proofs.faults.through_all_rows.Tie as tie

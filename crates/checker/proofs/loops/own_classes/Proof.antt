@@ -5,7 +5,7 @@ use mathlib.Core.Path.{_≡_}
 use native.Mathlib.Omega.{arith}
 use lib.ListN.{getD}
 use Rattle.rows.proofs.Laws.{Built, built-none, built-more, built-all}
-use Rattle.checker.specs.Stages.{counting}
+use Rattle.checker.specs.Steps.Stage.{counting}
 use Rattle.checker.proofs.LoopLaws.{counting-length, counting-at}
 use Rattle.checker.proofs.loops.own_classes.Statement.{statement}
 use Rattle.checker.proofs.loops.own_classes.Tie as tie

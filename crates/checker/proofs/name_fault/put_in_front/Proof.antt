@@ -3,7 +3,7 @@ use mathlib.Core.Path.{ap, _∙_}
 use Prim.Native.Nat.{_*_}
 use native.Mathlib.Omega.{arith}
 use lib.ListN.{length, length-set}
-use Rattle.checker.specs.Names.{startOf}
+use Rattle.checker.specs.Steps.Names.{startOf}
 use Rattle.checker.proofs.NameLaws.{put-front}
 use borrow.Author.Needs.{needs}
 use Rattle.checker.proofs.name_fault.put_in_front.Statement.{statement}

@@ -2,7 +2,7 @@
 use mathlib.Core.Path.{refl}
 use native.Mathlib.Omega.{arith}
 use Rattle.checker.proofs.ChainLaws.{spread-below, start-below}
-use Rattle.checker.specs.Names.{startOf}
+use Rattle.checker.specs.Steps.Names.{startOf}
 use borrow.Author.Needs.{needs}
 use Rattle.checker.proofs.name_fault.start.Statement.{statement}
 use Rattle.checker.proofs.name_fault.start.Tie as tie

@@ -3,7 +3,7 @@
 use mathlib.Core.Path.{sym, _∙_}
 use native.Mathlib.Omega.{arith}
 use borrow.Author.Needs.{needs}
-use Rattle.checker.specs.Names.{nextIn}
+use Rattle.checker.specs.Steps.Names.{nextIn}
 use Rattle.checker.proofs.ChainLaws.{Walk, walk-begins, walk-goes-on, walk-falls, walk-hits, walk-misses}
 use Rattle.checker.proofs.name_fault.stood_earlier.Statement.{statement}
 use Rattle.checker.proofs.name_fault.stood_earlier.Tie as tie

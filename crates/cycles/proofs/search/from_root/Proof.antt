@@ -10,7 +10,7 @@ use Rattle.cycles.specs.Steps.Marks.{mark, Grown}
 use Rattle.cycles.proofs.Totals.{left}
 use Rattle.cycles.proofs.Stores.{grown-none, grown-join}
 use Rattle.cycles.proofs.Passing.{sure}
-use Rattle.cycles.proofs.Turns.{Going, Turning, turning, end-inside}
+use Rattle.cycles.proofs.Turns.{SearchGoing, Turning, turning, end-inside}
 use Rattle.cycles.proofs.GoingDown.{Facing, room-there, closing, going-down}
 use Rattle.cycles.proofs.ComingBack.{Leaving, back-inside, coming-back, coming-out}
 use Rattle.cycles.proofs.Roots.{stopped-later, rooted, ended}
@@ -18,7 +18,7 @@ use Rattle.cycles.proofs.search.from_root.Statement.{statement}
 use Rattle.cycles.proofs.search.from_root.Tie as tie
 
 abbrev Inv-loop : tie.InvT-loop
-Inv-loop table class work₀ root depth₀ x₀ i₀ work depth x i = Going (digraphOf table class) work depth x i × Grown (digraphOf table class) work₀ work
+Inv-loop table class work₀ root depth₀ x₀ i₀ work depth x i = SearchGoing (digraphOf table class) work depth x i × Grown (digraphOf table class) work₀ work
 
 abbrev μ-loop : tie.MeasureT-loop
 μ-loop table class work₀ root depth₀ x₀ i₀ work depth x i = left (digraphOf table class) work

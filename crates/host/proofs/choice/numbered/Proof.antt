@@ -3,7 +3,7 @@
 use mathlib.Core.Logic.{inl, inr}
 use native.Mathlib.Omega.{arith}
 use borrow.Author.Needs.{needs}
-use Rattle.host.specs.Stages.{no-job}
+use Rattle.host.specs.Steps.Choice.{no-job}
 use Rattle.host.proofs.ChoiceLaws.{numbered-there}
 use Rattle.host.proofs.choice.numbered.Statement.{statement}
 use Rattle.host.proofs.choice.numbered.Tie as tie

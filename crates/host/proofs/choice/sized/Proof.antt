@@ -3,7 +3,7 @@
 use mathlib.Core.Logic.{inl, inr}
 use native.Mathlib.Omega.{arith}
 use borrow.Author.Needs.{needs}
-use Rattle.host.specs.Stages.{no-size, no-room, fits}
+use Rattle.host.specs.Steps.Choice.{no-size, no-room, fits}
 use Rattle.host.proofs.choice.sized.Statement.{statement}
 use Rattle.host.proofs.choice.sized.Tie as tie
 

@@ -3,7 +3,7 @@
 use mathlib.Core.Logic.{inl, inr}
 use native.Mathlib.Omega.{arith}
 use borrow.Author.Needs.{needs}
-use Rattle.jobfile.specs.Reader.{Opened}
+use Rattle.jobfile.specs.Steps.Reading.{Opened}
 use Rattle.jobfile.proofs.ReaderLaws.{judged-file, judged-contents, judged-bodies}
 use Rattle.jobfile.proofs.contents.judge.Statement.{statement}
 use Rattle.jobfile.proofs.contents.judge.Tie as tie

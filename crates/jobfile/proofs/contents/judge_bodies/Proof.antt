@@ -3,12 +3,12 @@
 use mathlib.Core.Path.{sym, _∙_}
 use Prim.Native.Nat.{_-_}
 use native.Mathlib.Omega.{arith}
-use Rattle.jobfile.proofs.ReaderLaws.{Walked, walked-none, walked-more, bodies-wrong, bodies-past, bodies-follow, bodies-good}
+use Rattle.jobfile.proofs.ReaderLaws.{EntriesWalked, walked-none, walked-more, bodies-wrong, bodies-past, bodies-follow, bodies-good}
 use Rattle.jobfile.proofs.contents.judge_bodies.Statement.{statement}
 use Rattle.jobfile.proofs.contents.judge_bodies.Tie as tie
 
 abbrev Inv-loop : tie.InvT-loop
-Inv-loop file jobs start₀ k₀ start k = Walked file k start
+Inv-loop file jobs start₀ k₀ start k = EntriesWalked file k start
 
 abbrev μ-loop : tie.MeasureT-loop
 μ-loop file jobs start₀ k₀ start k = jobs - k

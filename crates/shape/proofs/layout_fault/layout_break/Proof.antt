@@ -4,7 +4,7 @@ use mathlib.Core.Path.{refl}
 use Prim.Native.Nat.{_-_}
 use lib.ListN.{length}
 use borrow.Author.Needs.{needs}
-use Rattle.shape.specs.Layout.{wantedOf}
+use Rattle.shape.specs.Steps.Wanted.{wantedOf}
 use Rattle.shape.proofs.LayoutLaws.{Scanned, scan-stops, scan-stands, scan-ends}
 use Rattle.shape.proofs.layout_fault.layout_break.Statement.{statement}
 use Rattle.shape.proofs.layout_fault.layout_break.Tie as tie

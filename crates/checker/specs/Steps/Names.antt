@@ -70,6 +70,6 @@ pub record ChainedOn (t entry exit : List ℕ) (a : ℕ) : Type 0 where
   pub stays : RestStays t entry exit
 
 -- An address was judged: it repeats a name and the work row stays, or it does not and the chains have it.
-pub record Judged (t entry exit : List ℕ) (a : ℕ) (repeated : Bool) : Type 0 where
+pub record NameJudged (t entry exit : List ℕ) (a : ℕ) (repeated : Bool) : Type 0 where
   pub verdict : Either repeated (Repeats t a) (Repeats t a → ⊥)
   pub goes-on : Either repeated (exit ≡ entry) (ChainedOn t entry exit (a + 1))

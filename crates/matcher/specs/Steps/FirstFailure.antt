@@ -13,12 +13,12 @@ use Rattle.table.specs.Table.{graphOf}
 use Rattle.table.specs.Faults.{Fault, number, checkOrder, matchOrder}
 use Rattle.classes.specs.declared.joining.Joined.{Joined}
 use Rattle.matcher.specs.declared.answer.Matched.{Matched}
-use Rattle.matcher.specs.Match.{numberOf, placeOf, joinsOf, Bound, jobOf}
-use Rattle.matcher.specs.Stages.{Cycles, Ready}
+use Rattle.matcher.specs.Match.{numberOf, placeOf, joinsOf, AcceptedWith, jobOf}
+use Rattle.matcher.specs.Steps.PassedAll.{Cycles, PassedAll}
 
 -- A job that passes all checks, and a work row whose entries that are used are 0.
 pub record Standing (t list class work : List ℕ) : Type 0 where
-  pub ready : Ready (jobOf t list class work)
+  pub ready : PassedAll (jobOf t list class work)
   pub clean : zeroed (2 * length t) work ≡ work
 
 -- A table that passed its check, with rows whose entries in use are 0.
@@ -28,7 +28,7 @@ pub record TablePassed (t list class work : List ℕ) : Type 0 where
   pub work-clean : zeroed (2 * length t) work ≡ work
 
 -- The rows after a step: the class row changed in its first n entries at most, and the work row is as it was.
-pub record Lent (t class work class-after work-after : List ℕ) : Type 0 where
+pub record OnlyClassFront (t class work class-after work-after : List ℕ) : Type 0 where
   pub class-long : length class-after ≡ length class
   pub class-behind : drop (length t) class-after ≡ drop (length t) class
   pub work-same : work-after ≡ work
@@ -45,19 +45,19 @@ pub data FirstJoined (t list class : List ℕ) (k : ℕ) : Joined → Type 0 whe
       → FirstJoined t list class k (Joined.ClashAt at)
 
 pub record JoinsFirst (t list class work : List ℕ) (k : ℕ) (answer : Joined) (class-after work-after : List ℕ) : Type 0 where
-  pub lent : Lent t class work class-after work-after
+  pub lent : OnlyClassFront t class work class-after work-after
   pub joined : FirstJoined t list class-after k answer
 
 -- The pairs are joined up to the first clash: m of them, and the next clashes, if there is one.
 pub record UntilClash (t list class work : List ℕ) (m : ℕ) (class-after work-after : List ℕ) : Type 0 where
-  pub lent : Lent t class work class-after work-after
+  pub lent : OnlyClassFront t class work class-after work-after
   pub inside : m ≤ length (pairsOf list)
   pub partitioned : Partitioned t list class-after m
   pub next : m < length (pairsOf list) → Clash (graphOf t) (take (m + 1) (pairsOf list))
 
 -- whether the first k pairs have a cycle
 pub record TellsCycle (t list class work : List ℕ) (k : ℕ) (answer : Bool) (class-after work-after : List ℕ) : Type 0 where
-  pub lent : Lent t class work class-after work-after
+  pub lent : OnlyClassFront t class work class-after work-after
   pub truth : Cycles answer (graphOf t) (take k (pairsOf list))
 
 -- The first k pairs have no clash.
@@ -67,7 +67,7 @@ pub record Clashless (t list : List ℕ) (k : ℕ) : Type 0 where
 
 -- The first cycle comes with the pair of this number.
 pub record CycleAt (t list class work : List ℕ) (many found : ℕ) (class-after work-after : List ℕ) : Type 0 where
-  pub lent : Lent t class work class-after work-after
+  pub lent : OnlyClassFront t class work class-after work-after
   pub place : ℕ
   pub numbers : found ≡ place + 1
   pub within : found ≤ many
@@ -78,6 +78,6 @@ pub record CycleAt (t list class work : List ℕ) (many found : ℕ) (class-afte
 pub record Verdict (t list class work : List ℕ) (answer : Matched) (class-after work-after : List ℕ) : Type 0 where
   pub answered : Answered number (Fault (jobOf t list class work)) matchOrder (numberOf answer) (placeOf answer)
   pub late : changesNothing (numberOf answer) ≡ false
-  pub bound : numberOf answer ≡ 0 → Bound t list class class-after (joinsOf answer)
+  pub bound : numberOf answer ≡ 0 → AcceptedWith t list class class-after (joinsOf answer)
   pub refused : (numberOf answer ≡ 0 → ⊥) → class-after ≡ zeroed (length t) class
   pub work-same : work-after ≡ work

@@ -10,7 +10,7 @@ use Rattle.table.specs.Table.{kindAt}
 use Rattle.table.specs.Layout.{Wanted, item, more, breakFrom}
 use Rattle.table.specs.Faults.{badKind, badWord, badPointer, Repeats}
 use Rattle.table.specs.Shaped.{Shaped}
-use Rattle.checker.specs.Names.{RestStays, Chained}
+use Rattle.checker.specs.Steps.Names.{RestStays, Chained}
 
 -- a count word whose content is allowed
 unfoldable pub soundCount : ℕ → Bool

@@ -21,18 +21,18 @@ counting from zero = []
 counting from (suc k) = from ∷ counting (suc from) k
 
 -- a table, of a size that is allowed, with room for it
-pub record Roomy (t class work : List ℕ) : Type 0 where
+pub record SizeAndRoom (t class work : List ℕ) : Type 0 where
   pub some-word : 0 < length t
   pub small : length t ≤ mostWords
   pub class-enough : length t ≤ length class
   pub work-enough : 4 * length t ≤ length work
 
 -- the rows that a stage was lent: nothing above n and 4n changed
-pub record Kept (t class work class-after work-after : List ℕ) : Type 0 where
+pub record OnlyFronts (t class work class-after work-after : List ℕ) : Type 0 where
   pub class-kept : drop (length t) class-after ≡ drop (length t) class
   pub work-kept : drop (4 * length t) work-after ≡ drop (4 * length t) work
 
 -- what a stage answers by its rows, and what it keeps
 pub record Stage (rows : List Row) (t class work : List ℕ) (answer : Checked) (class-after work-after : List ℕ) : Type 0 where
   pub answered : ByRows rows t answer
-  pub kept : Kept t class work class-after work-after
+  pub kept : OnlyFronts t class work class-after work-after

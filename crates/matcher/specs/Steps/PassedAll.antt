@@ -23,7 +23,7 @@ Cycles true G pairs = Cycle G pairs
 Cycles false G pairs = Cycle G pairs → ⊥
 
 -- What a job has that passes all checks.
-pub record Ready (job : Job) : Type 0 where
+pub record PassedAll (job : Job) : Type 0 where
   pub some-word : 0 < length (job .table)
   pub small : length (job .table) ≤ mostWords
   pub class-enough : length (job .table) ≤ job .class-room

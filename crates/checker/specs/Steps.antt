@@ -1,0 +1,4 @@
+-- What the crate's own steps promise each other; nobody else need read it.
+pub mod Names
+pub mod Sound
+pub mod Stage

@@ -1,0 +1,41 @@
+-- The rows that are lent for a job of a file. For this crate alone. Assumes nothing.
+use mathlib.Core.Path.{_≡_}
+use mathlib.Core.List.{List}
+use Prim.Native.Nat.{ℕ, _+_, _-_, _*_, _≤_, min}
+use lib.ListN.{length}
+use Rattle.words.specs.Limits.{mostWords}
+use Rattle.jobfile.specs.File.{countIn, pairsIn, GoodFile}
+use Rattle.host.specs.Host.{entryOf, wordsOf}
+
+-- Words of the tables that have small and middle rows.
+abbrev pub smallRow : ℕ
+smallRow = 64
+
+abbrev pub middleRow : ℕ
+middleRow = 512
+
+-- A list of over 256 pairs is cut off, with one pair too many.
+abbrev pub listRoom : ℕ
+listRoom = 514
+
+-- rows with room in their fronts for a table of n words, its class entries and its work, and a row for its list
+abbrev pub RowsFit : ℕ → List ℕ → List ℕ → List ℕ → List ℕ → Type 0
+RowsFit n table list class work = (n ≤ length table) × (length list ≡ listRoom) × (n ≤ length class) × (4 * n ≤ length work)
+
+-- rows for the job's words, and for its addresses or the first of them
+pub record Copyable (bytes : List ℕ) (job : ℕ) (table list : List ℕ) : Type 0 where
+  pub good : GoodFile bytes
+  pub some-job : 1 ≤ job
+  pub inside : job ≤ countIn bytes
+  pub words : length table ≡ wordsOf bytes job
+  pub pairs : length list ≤ 2 * pairsIn bytes (entryOf job)
+
+-- the same for a match of it
+pub record RowsOfJob (bytes : List ℕ) (job : ℕ) (table list class work room : List ℕ) : Type 0 where
+  pub copyable : Copyable bytes job table list
+  pub cut : length list ≡ min (2 * pairsIn bytes (entryOf job)) listRoom
+  pub classes : length class ≡ wordsOf bytes job
+  pub works : length work ≡ 4 * wordsOf bytes job
+  pub some-word : 1 ≤ wordsOf bytes job
+  pub few-words : wordsOf bytes job ≤ mostWords
+  pub enough : 6 + 2 * wordsOf bytes job ≤ length room

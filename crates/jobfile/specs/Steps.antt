@@ -1,0 +1,3 @@
+-- What the crate's own steps promise each other; nobody else need read it.
+pub mod Reading
+pub mod Writing
