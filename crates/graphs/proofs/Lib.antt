@@ -3,6 +3,7 @@ pub mod Theorems
 pub mod Finite
 pub mod Classes
 pub mod Trees
+pub mod Counts
 pub mod Unifiers
 pub mod Replay
 pub mod Certificates

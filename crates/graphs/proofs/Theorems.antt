@@ -12,11 +12,12 @@ use Prim.Native.Nat.{ℕ, _≤_, _<_}
 use lib.ListN.{take}
 use Rattle.graphs.specs.Graph.{Symbols, variable, Graph, Node, Child, Steps, WellFormed}
 use Rattle.graphs.specs.Partition.{Pair, _∈_, Sides, Same, Closed, Clash, ClassStep, Cycle, entry, ClassTable}
-use Rattle.graphs.specs.Term.{var, Replacement, _then_, grown, below, Unifies, FollowsRule, answer}
+use Rattle.graphs.specs.Term.{var, WellCounted, Replacement, _then_, grown, below, Unifies, FollowsRule, answer}
 use Rattle.graphs.specs.Log.{Join, ends, replay, closed, ranked, clashes, Down, cycles, loops}
 use Rattle.graphs.proofs.Finite as finite
 use Rattle.graphs.proofs.Classes as classes
 use Rattle.graphs.proofs.Trees as trees
+use Rattle.graphs.proofs.Counts as counts
 use Rattle.graphs.proofs.Unifiers as unifiers
 use Rattle.graphs.proofs.Replay as replays
 use Rattle.graphs.proofs.Certificates as certificates
@@ -85,6 +86,13 @@ module _ {S : Symbols} {G : Graph S} {pairs : List Pair} {table : List ℕ} (wf 
 
   pub answer-only : (σ : Replacement S) → FollowsRule G pairs table σ → (x : ℕ) → G .head x ≡ variable → σ x ≡ answer G table x
   answer-only = unifiers.answer-only wf sides c no-cycle no-clash
+
+-- In the answer's terms, and in the term below a node, each symbol has as many arguments as it counts.
+pub answer-counted : {S : Symbols} {G : Graph S} → WellFormed G → (table : List ℕ) (x : ℕ) → WellCounted (answer G table x)
+answer-counted = counts.answer-counted
+
+pub below-counted : {S : Symbols} {G : Graph S} → WellFormed G → (x : ℕ) → WellCounted (below G x)
+below-counted = counts.below-counted
 
 -- ---- more pairs
 

@@ -16,6 +16,22 @@ mutual
     none : Terms S
     also : Term S → Terms S → Terms S
 
+-- how many terms
+unfoldable pub many : {S : Symbols} → Terms S → ℕ
+many none = 0
+many (also t ts) = suc (many ts)
+
+-- "A symbol is a label with its argument count": each symbol in a term has as many arguments as it counts. A term is made
+-- without asking for that, so it is said where it matters.
+unfoldable mutual
+  pub WellCounted : {S : Symbols} → Term S → Type 0
+  WellCounted (var x) = Unit {0}
+  WellCounted {S} (app s ts) = (many ts ≡ S .count s) × AllWellCounted ts
+
+  pub AllWellCounted : {S : Symbols} → Terms S → Type 0
+  AllWellCounted none = Unit {0}
+  AllWellCounted (also t ts) = WellCounted t × AllWellCounted ts
+
 -- A replacement gives each variable a term.
 abbrev pub Replacement : Symbols → Type 0
 Replacement S = ℕ → Term S

@@ -14,17 +14,17 @@ use lib.ListN.{length, take, drop}
 use lib.Seq.{take-at, take-all}
 use Rattle.answering.specs.Answers.{Answered, NoneOf}
 use Rattle.answering.proofs.LowestLaws.{neither-below}
-use Rattle.answering.proofs.Orders.{answered-only, passed-none, rest-answers}
-use Rattle.graphs.specs.Graph.{Symbols, Graph, variable, WellFormed}
-use Rattle.graphs.specs.Partition.{Pair, pairsOf, _∈_, Sides, Clash, Cycle, ClassTable, joins}
-use Rattle.graphs.specs.Term.{Replacement, _then_, Unifies, FollowsRule, answer}
-use Rattle.graphs.proofs.Theorems.{unifier-no-clash, unifier-no-cycle, no-pairs-no-clash, no-pairs-no-cycle, answer-unifies, answer-most-general, answer-follows-rule, first-pairs-grow, class-table-or-clash}
+use Rattle.answering.proofs.Orders.{answered-only, passed-none, none-parts, rest-answers}
+use Rattle.graphs.specs.Graph.{Symbols, Graph, variable, Node, WellFormed}
+use Rattle.graphs.specs.Partition.{Pair, pairsOf, _∈_, Sides, Same, Clash, Cycle, entry, ClassTable, joins}
+use Rattle.graphs.specs.Term.{WellCounted, Replacement, _then_, Unifies, FollowsRule, answer}
+use Rattle.graphs.proofs.Theorems.{unifier-no-clash, unifier-no-cycle, no-pairs-no-clash, no-pairs-no-cycle, answer-unifies, answer-most-general, answer-follows-rule, answer-only, answer-counted, class-table-classes, first-pairs-grow, class-table-or-clash}
 use Rattle.table.specs.Table.{TableSymbols, graphOf}
 use Rattle.table.specs.Faults.{Job, number, Fault, clash-fault, cycle-fault, checkOrder, listRows, pairRows, matchOrder}
 use Rattle.table.proofs.OneAnswer.{fault-once}
 use Rattle.matcher.specs.declared.answer.Matched.{Matched}
 use Rattle.matcher.specs.Match.{numberOf, placeOf, joinsOf, AcceptedWith, jobOf, MatchOf, Passes}
-use Rattle.matcher.specs.Demands.{Met, FirstUnmet, FirstClash, FirstCycle}
+use Rattle.matcher.specs.Demands.{Met, MetCounted, FirstUnmet, FirstClash, FirstCycle}
 use Rattle.matcher.specs.Steps.PassedAll.{PassedAll}
 use Rattle.matcher.proofs.Verdicts.{ready, list-so-far, accepted-answered, clash-answered, cycle-answered}
 
@@ -68,6 +68,14 @@ module _ {job : Job} where
   which a p (inr (no-clash, inl (e, f))) = inr (inr e)
   which a p (inr (no-clash, inr (no-cycle, (z, e)))) = inl z
 
+-- What is accepted passes all checks.
+pub accepted-passes : {t list class work : List ℕ} {r : Matched} {class-after work-after : List ℕ} → MatchOf t list class work r class-after work-after
+    → numberOf r ≡ 0 → Passes (jobOf t list class work)
+unfolding number
+accepted-passes {t} {list} {class} {work} {r} m z =
+    none-parts (Fault (jobOf t list class work)) (checkOrder ++ listRows) pairRows
+    (passed-none number (Fault (jobOf t list class work)) matchOrder (numberOf r) (placeOf r) refl z (m .answered) .0) .0
+
 module _ {t list class work : List ℕ} {r : Matched} {class-after work-after : List ℕ} (m : MatchOf t list class work r class-after work-after) (passes : Passes (jobOf t list class work)) where
   has : PassedAll (jobOf t list class work)
   has = ready passes
@@ -88,6 +96,11 @@ module _ {t list class work : List ℕ} {r : Matched} {class-after work-after : 
   -- If the answer is 0, the class entries in use are the class table of the list: a node's entry is its class's name.
   pub accepted-class-table : numberOf r ≡ 0 → ClassTable (graphOf t) (pairsOf list) (take (length t) class-after)
   accepted-class-table z = subst (ClassTable (graphOf t) (pairsOf list)) (sym (front-is (m .bound z))) (m .bound z .class-table)
+
+  -- In it nodes are together exactly where they have one entry.
+  pub accepted-classes : numberOf r ≡ 0 → {x y : ℕ} → Node (graphOf t) x → Node (graphOf t) y
+      → Same (graphOf t) (pairsOf list) x y ↔ (entry (take (length t) class-after) x ≡ entry (take (length t) class-after) y)
+  accepted-classes z = class-table-classes (has .well-formed) (has .sides) (accepted-class-table z)
 
   -- The joins are the number of nodes less the number of classes.
   pub accepted-joins : numberOf r ≡ 0 → joinsOf r ≡ joins (graphOf t) (take (length t) class-after)
@@ -132,6 +145,17 @@ module _ {t list class work : List ℕ} {r : Matched} {class-after work-after : 
     λ met. answered-as 0 0 (accepted-answered passes (unifier-no-clash (has .well-formed) (met .0) (met .1)) (unifier-no-cycle (has .well-formed) (met .0) (met .1))) .0,
   )
 
+  -- The terms of the answer have as many arguments as their symbols count, so it makes no difference whether a replacement by
+  -- other terms is allowed.
+  pub answer-well-counted : (x : ℕ) → WellCounted (answer (graphOf t) (take (length t) class-after) x)
+  answer-well-counted = answer-counted (has .well-formed) (take (length t) class-after)
+
+  pub accepted-exactly-counted : (numberOf r ≡ 0) ↔ MetCounted (graphOf t) (pairsOf list)
+  accepted-exactly-counted = (
+    λ z. (answer (graphOf t) (take (length t) class-after), answer-well-counted, answer-makes-equal z),
+    λ met. accepted-exactly .1 (met .0, met .2),
+  )
+
   -- ---- the answer as a replacement
 
   -- For every replacement that makes the pairs equal, doing the answer first and then that one gives every variable of the table
@@ -144,6 +168,11 @@ module _ {t list class work : List ℕ} {r : Matched} {class-after work-after : 
   -- name, with each variable in that term replaced by its own answer.
   pub answer-rule : numberOf r ≡ 0 → FollowsRule (graphOf t) (pairsOf list) (take (length t) class-after) (answer (graphOf t) (take (length t) class-after))
   answer-rule z = answer-follows-rule (has .well-formed) (has .sides) (accepted-class-table z) (faultless z .0) (faultless z .1)
+
+  -- No other replacement follows that rule, on the variables of the table.
+  pub answer-rule-only : numberOf r ≡ 0 → (σ : Replacement TableSymbols) → FollowsRule (graphOf t) (pairsOf list) (take (length t) class-after) σ
+      → (x : ℕ) → graphOf t .head x ≡ variable → σ x ≡ answer (graphOf t) (take (length t) class-after) x
+  answer-rule-only z = answer-only (has .well-formed) (has .sides) (accepted-class-table z) (faultless z .0) (faultless z .1)
 
   -- ---- refusals and their place
 

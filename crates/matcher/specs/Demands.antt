@@ -4,11 +4,15 @@ use Prim.Native.Nat.{ℕ, _+_, _-_, _≤_, _<_}
 use lib.ListN.{length, take}
 use Rattle.graphs.specs.Graph.{Symbols, Graph}
 use Rattle.graphs.specs.Partition.{Pair, Clash, Cycle}
-use Rattle.graphs.specs.Term.{Replacement, Unifies}
+use Rattle.graphs.specs.Term.{WellCounted, Replacement, Unifies}
 
 -- Some replacement makes both sides of every pair equal.
 abbrev pub Met : {S : Symbols} → Graph S → List Pair → Type 0
 Met {S} G pairs = (θ : Replacement S) × Unifies G pairs θ
+
+-- The same, with terms in which each symbol has as many arguments as it counts.
+abbrev pub MetCounted : {S : Symbols} → Graph S → List Pair → Type 0
+MetCounted {S} G pairs = (θ : Replacement S) × ((x : ℕ) → WellCounted (θ x)) × Unifies G pairs θ
 
 -- The first k pairs cannot be met, and the first k - 1 can.
 pub record FirstUnmet {S : Symbols} (G : Graph S) (pairs : List Pair) (k : ℕ) : Type 0 where
