@@ -2,7 +2,7 @@
 --
 -- In order: one answer at one place (`answered-only`); a test that every row passes (`each`), and what it says of an answer
 -- (`answered-tested`, `passed-none`); an order put together from two and taken apart (`refused-first`, `none-first`, `none-parts`,
--- `answered-parts`); rows carried over to other rows (`carried`). Assumes nothing.
+-- `answered-parts`); rows that apply alike (`answered-alike`); rows carried over to other rows (`carried`). Assumes nothing.
 use mathlib.Core.Path.{_≡_, refl, sym, ap, _∙_}
 use mathlib.Core.Bool.{Bool, true, false, _&&_, true≢false}
 use mathlib.Core.Logic.{_⊎_, inl, inr}
@@ -93,6 +93,14 @@ module _ {Row : Type 0} (number : Row → ℕ) (Applies : Row → ℕ → Type 0
   rest-answers [] rest a p none x = x
   rest-answers (row ∷ rows) rest a p none (inl (e, x)) = absurd (none .0 p x)
   rest-answers (row ∷ rows) rest a p none (inr (none-applies, later)) = rest-answers rows rest a p (none .1) later
+
+-- Rows that apply alike answer alike.
+pub answered-alike : {Row : Type 0} (number : Row → ℕ) {Applies Alike : Row → ℕ → Type 0} → ((row : Row) (p : ℕ) → Applies row p → Alike row p)
+    → ((row : Row) (p : ℕ) → Alike row p → Applies row p) → (rows : List Row) (a p : ℕ) → Answered number Applies rows a p → Answered number Alike rows a p
+answered-alike number forth back [] a p x = x
+answered-alike number forth back (row ∷ rows) a p (inl (e, x)) = inl (e, forth row p x)
+answered-alike number forth back (row ∷ rows) a p (inr (none-applies, later)) =
+    inr (λ q x. none-applies q (back row q x), answered-alike number forth back rows a p later)
 
 module _ {Row : Type 0} (Applies : Row → ℕ → Type 0) where
   pub none-both : (rows rest : List Row) → NoneOf Applies rows → NoneOf Applies rest → NoneOf Applies (rows ++ rest)

@@ -115,7 +115,7 @@ named-falls {S} {G} {pairs} {x} {r} wf n (by-variable same only low) =
     ⊎-elim inl (λ l. inr (omega (arith, key-variable G (only x (itself n)), key-variable G (only r same)))) (at-most (low x (itself n)))
 
 -- no more pass a test than are tested
-count-below : (test : ℕ → Bool) (n : ℕ) → count test n ≤ n
+pub count-below : (test : ℕ → Bool) (n : ℕ) → count test n ≤ n
 unfolding count bit
 count-below test zero = omega arith
 count-below test (suc n) = omega (arith, count-below test n, small (test n))

@@ -21,7 +21,8 @@ use Rattle.jobfile.specs.declared.answers.WriteAnswer.the-variants.{Written, Co
 use Rattle.jobfile.specs.File.{fileOf}
 use Rattle.jobfile.specs.Writer.{WriteOf, roomWritten, numberOf as writeNumber}
 
-left-front : (a n : ℕ) (row : List ℕ) → changesNothing a ≡ false → take n (left a n row) ≡ replicate n 0
+-- what is in front then
+pub left-front : (a n : ℕ) (row : List ℕ) → changesNothing a ≡ false → take n (left a n row) ≡ replicate n 0
 left-front a n row late = ap (take n) (left-zeroed a n row late) ∙ take-at (replicate n 0) (drop n row) n (length-replicate {A = ℕ} n 0)
 
 -- ---- a match

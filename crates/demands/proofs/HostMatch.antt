@@ -1,8 +1,8 @@
 -- The host call is the match of the job that it names.
 --
--- In order: the rows that the host call passes over (`late`); its job passes the checks of a match (`passes-match`); the answer
--- of that match (`told`); the host call as a match on buffers of n and of 4n zeros (`as-match`); what the room then holds.
--- Assumes nothing.
+-- In order: an accepted call passes all checks (`accepted-host-passes`); the rows that the host call passes over (`late`); its job passes the checks of a match (`passes-match`); the answer
+-- of that match (`told`); the host call as a match on buffers of n and of 4n zeros (`as-match`); the demands on that
+-- match, of the host call. Assumes nothing.
 use mathlib.Core.Path.{_≡_, refl, sym, ap, ap₂, _∙_, subst}
 use mathlib.Core.Bool.{false}
 use mathlib.Core.Logic.{_⊎_, inl, inr, ⊎-elim, _↔_}
@@ -14,26 +14,35 @@ use lib.Seq.{take-all}
 use Rattle.rows.specs.Placed.{zeroed}
 use Rattle.answering.specs.Answers.{Answered}
 use Rattle.answering.specs.Buffers.{changesNothing, left}
-use Rattle.answering.proofs.Orders.{rest-answers, none-both, none-parts}
+use Rattle.answering.proofs.Orders.{passed-none, rest-answers, none-both, none-parts}
 use Rattle.answering.proofs.BufferLaws.{left-zeroed}
-use Rattle.graphs.specs.Graph.{variable}
-use Rattle.graphs.specs.Partition.{pairsOf}
-use Rattle.graphs.specs.Term.{Replacement, _then_, Unifies, answer}
+use Rattle.graphs.specs.Graph.{variable, Node}
+use Rattle.graphs.specs.Partition.{pairsOf, Same, Smallest, entry, ClassTable, OneEntry}
+use Rattle.graphs.specs.Term.{WellCounted, Replacement, _then_, Unifies, FollowsRule, answer}
+use Rattle.graphs.proofs.Theorems.{class-table-classes, class-table-smallest, answer-counted}
 use Rattle.table.specs.Table.{TableSymbols, graphOf}
 use Rattle.table.specs.Faults.{Job, sent, Fault, number as matchNumber, sizeRows, tableRows, listRows, pairRows, matchOrder}
 use Rattle.matcher.specs.declared.answer.Matched.{Matched}
 use Rattle.matcher.specs.declared.answer.Matched.the-variants.{Accepted, Clash as ClashAt, Cycle as CycleAt}
 use Rattle.matcher.specs.Match.{numberOf, placeOf, joinsOf, MatchOf, Passes, jobOf as lentJob}
-use Rattle.matcher.specs.Demands.{Met, FirstUnmet}
-use Rattle.matcher.proofs.Verdicts.{behind-nine}
-use Rattle.matcher.proofs.Demands.{accepted-exactly, answer-makes-equal, answer-most-general-of-list, refused-at-first}
+use Rattle.matcher.specs.Demands.{Met, MetCounted, FirstUnmet}
+use Rattle.matcher.specs.Steps.PassedAll.{PassedAll}
+use Rattle.matcher.proofs.Verdicts.{ready, behind-nine}
+use Rattle.matcher.proofs.Demands.{accepted-exactly, accepted-exactly-counted, answer-makes-equal, answer-rule, answer-rule-only, answer-most-general-of-list, refused-at-first}
 use Rattle.jobfile.specs.File.{bodyIn}
-use Rattle.jobfile.specs.Faults.{readOrder}
+use Rattle.jobfile.specs.Faults.{fileNumber, readOrder}
 use Rattle.jobfile.proofs.NumberLaws.{length-rowIn}
 use Rattle.host.specs.Host.{entryOf, wordsOf, tableOf, listOf, jobOf, of-file, of-match, hostNumber, HostFault, size-fault, callRows, earlyOrder, hostOrder, HostOf}
 use Rattle.host.proofs.ChoiceLaws.{to-match, none-of-match}
 use Rattle.host.proofs.JobLaws.{sizes-pass}
 use Rattle.demands.specs.HostPasses.{HostPasses}
+
+-- What is accepted passes all checks.
+pub accepted-host-passes : {bytes : List ℕ} {job : ℕ} {room : List ℕ} {a : ℕ} {room-after : List ℕ} → HostOf bytes job room a room-after → a ≡ 0 → HostPasses bytes job room
+unfolding hostNumber fileNumber matchNumber
+accepted-host-passes {bytes} {job} {room} {a} h z =
+    none-parts (HostFault bytes job room) (earlyOrder ++ map of-match (tableRows ++ listRows)) (map of-match pairRows)
+    (passed-none hostNumber (HostFault bytes job room) hostOrder a (h .place) refl z (h .answered) .0) .0
 
 module _ {bytes : List ℕ} {job : ℕ} {room : List ℕ} (passes : HostPasses bytes job room) where
   abbrev table : List ℕ
@@ -150,6 +159,12 @@ module _ {bytes : List ℕ} {job : ℕ} {room : List ℕ} (passes : HostPasses b
       λ met. sym (as-told .number-is) ∙ accepted-exactly as-match lent-passes .1 met,
     )
 
+    pub host-accepted-exactly-counted : (a ≡ 0) ↔ MetCounted (graphOf table) (pairsOf (listOf bytes job))
+    host-accepted-exactly-counted = (
+      λ z. accepted-exactly-counted as-match lent-passes .0 (accepted z),
+      λ met. sym (as-told .number-is) ∙ accepted-exactly-counted as-match lent-passes .1 met,
+    )
+
     pub host-refused-at-first : (k : ℕ) → (((a ≡ 10) ⊎ (a ≡ 11)) × (h .place ≡ k)) ↔ FirstUnmet (graphOf table) (pairsOf (listOf bytes job)) k
     host-refused-at-first k = (
       λ x. refused-at-first as-match lent-passes k .0 (⊎-elim (λ e. inl (as-told .number-is ∙ e)) (λ e. inr (as-told .number-is ∙ e)) (x .0), as-told .place-is ∙ x .1),
@@ -157,15 +172,46 @@ module _ {bytes : List ℕ} {job : ℕ} {room : List ℕ} (passes : HostPasses b
           (⊎-elim (λ e. inl (sym (as-told .number-is) ∙ e)) (λ e. inr (sym (as-told .number-is) ∙ e)) (x .0), sym (as-told .place-is) ∙ x .1),
     )
 
-    all-classes : a ≡ 0 → take (length table) (h .classes) ≡ h .classes
-    all-classes z = take-all (length table) (h .classes) (omega (arith, h .bound z .class-table .long))
+    -- ---- of the class table and its answer
 
-    pub host-answer-makes-equal : a ≡ 0 → Unifies (graphOf table) (pairsOf (listOf bytes job)) (answer (graphOf table) (h .classes))
-    host-answer-makes-equal z =
-        subst (λ (l : List ℕ). Unifies (graphOf table) (pairsOf (listOf bytes job)) (answer (graphOf table) l)) (all-classes z)
-        (answer-makes-equal as-match lent-passes (accepted z))
+    has : PassedAll (lentJob table (listOf bytes job) class work)
+    has = ready lent-passes
 
-    pub host-answer-most-general : a ≡ 0 → (θ : Replacement TableSymbols) → Unifies (graphOf table) (pairsOf (listOf bytes job)) θ
-        → (x : ℕ) → graphOf table .head x ≡ variable → (answer (graphOf table) (h .classes) then θ) x ≡ θ x
-    host-answer-most-general z θ unifies x v =
-        subst (λ (l : List ℕ). (answer (graphOf table) l then θ) x ≡ θ x) (all-classes z) (answer-most-general-of-list as-match lent-passes (accepted z) θ unifies x v)
+    module _ (z : a ≡ 0) where
+      class-table : ClassTable (graphOf table) (pairsOf (listOf bytes job)) (h .classes)
+      class-table = h .bound z .class-table
+
+      pub host-smallest : Smallest (graphOf table) (pairsOf (listOf bytes job)) (OneEntry (graphOf table) (h .classes))
+      host-smallest = class-table-smallest (has .well-formed) (has .sides) class-table
+
+      pub host-classes : {x y : ℕ} → Node (graphOf table) x → Node (graphOf table) y
+          → Same (graphOf table) (pairsOf (listOf bytes job)) x y ↔ (entry (h .classes) x ≡ entry (h .classes) y)
+      host-classes = class-table-classes (has .well-formed) (has .sides) class-table
+
+      all-classes : take (length table) (h .classes) ≡ h .classes
+      all-classes = take-all (length table) (h .classes) (omega (arith, class-table .long))
+
+      -- what holds of the entries in front holds of the entries, which are all
+      of-all : (P : List ℕ → Type 0) → P (take (length table) (h .classes)) → P (h .classes)
+      of-all P = subst P all-classes
+
+      pub host-answer-makes-equal : Unifies (graphOf table) (pairsOf (listOf bytes job)) (answer (graphOf table) (h .classes))
+      host-answer-makes-equal = of-all (λ l. Unifies (graphOf table) (pairsOf (listOf bytes job)) (answer (graphOf table) l)) (answer-makes-equal as-match lent-passes (accepted z))
+
+      pub host-answer-well-counted : (x : ℕ) → WellCounted (answer (graphOf table) (h .classes) x)
+      host-answer-well-counted = answer-counted (has .well-formed) (h .classes)
+
+      pub host-answer-rule : FollowsRule (graphOf table) (pairsOf (listOf bytes job)) (h .classes) (answer (graphOf table) (h .classes))
+      host-answer-rule = of-all (λ l. FollowsRule (graphOf table) (pairsOf (listOf bytes job)) l (answer (graphOf table) l)) (answer-rule as-match lent-passes (accepted z))
+
+      pub host-answer-rule-only : (σ : Replacement TableSymbols) → FollowsRule (graphOf table) (pairsOf (listOf bytes job)) (h .classes) σ
+          → (x : ℕ) → graphOf table .head x ≡ variable → σ x ≡ answer (graphOf table) (h .classes) x
+      host-answer-rule-only σ follows x v =
+          of-all (λ l. FollowsRule (graphOf table) (pairsOf (listOf bytes job)) l σ → σ x ≡ answer (graphOf table) l x)
+          (λ f. answer-rule-only as-match lent-passes (accepted z) σ f x v)
+          follows
+
+      pub host-answer-most-general : (θ : Replacement TableSymbols) → Unifies (graphOf table) (pairsOf (listOf bytes job)) θ
+          → (x : ℕ) → graphOf table .head x ≡ variable → (answer (graphOf table) (h .classes) then θ) x ≡ θ x
+      host-answer-most-general θ unifies x v =
+          of-all (λ l. (answer (graphOf table) l then θ) x ≡ θ x) (answer-most-general-of-list as-match lent-passes (accepted z) θ unifies x v)

@@ -23,7 +23,7 @@ use Rattle.host.specs.Host.{entryOf, wordsOf, tableOf, listOf, of-file, hostNum
 use Rattle.host.proofs.ChoiceLaws.{early-silent}
 use Rattle.demands.proofs.Lengths.{front-length}
 
-length-report : (a p j : ℕ) (classes : List ℕ) → length (reportOf a p j classes) ≡ 6 + 2 * length classes
+pub length-report : (a p j : ℕ) (classes : List ℕ) → length (reportOf a p j classes) ≡ 6 + 2 * length classes
 unfolding reportOf
 length-report a p j classes = simp (length-append, length-bytesOf, length-bytesOfRow) (omega arith)
 
@@ -70,7 +70,7 @@ module _ {bytes : List ℕ} {job : ℕ} {room : List ℕ} {a : ℕ} {room-after 
       go (inl (refused, x)) = let silent : writesNothing a ≡ true = early-silent bytes job room a (h .place) refused x in never (cc)
       go (inr (none-early, later)) = at-most (λ short. none-parts (HostFault bytes job room) (map of-file readOrder) callRows none-early .1 .1 .1 .0 0 (room-fault short))
 
-  classes-length : Dec (a ≡ 0) → length (h .classes) ≡ wordsOf bytes job
+  pub classes-length : Dec (a ≡ 0) → length (h .classes) ≡ wordsOf bytes job
   classes-length (yes z) = h .bound z .class-table .long ∙ length-rowIn 4 (wordsOf bytes job) (bodyIn bytes (entryOf job))
   classes-length (no z) = ap length (h .refused z .1) ∙ length-replicate {A = ℕ} (wordsOf bytes job) 0
 

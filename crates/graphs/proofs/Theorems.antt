@@ -4,14 +4,14 @@
 --
 -- `wf` says that the graph is one that a checked table gives, `sides` that both sides of every pair are nodes, and `c` that
 -- `table` is the class table of the list. Assumes nothing.
-use mathlib.Core.Path.{_≡_}
+use mathlib.Core.Path.{_≡_, refl, sym, _∙_}
 use mathlib.Core.Logic.{_⊎_, _↔_}
 use mathlib.Core.Bool.{true}
 use mathlib.Core.List.{List, [], List·Memᴰ·not-nil}
 use Prim.Native.Nat.{ℕ, _≤_, _<_}
 use lib.ListN.{take}
 use Rattle.graphs.specs.Graph.{Symbols, variable, Graph, Node, Child, Steps, WellFormed}
-use Rattle.graphs.specs.Partition.{Pair, _∈_, Sides, Same, Closed, Clash, ClassStep, Cycle, entry, ClassTable}
+use Rattle.graphs.specs.Partition.{Pair, _∈_, Sides, Same, paired, placed, Closed, Smallest, Clash, ClassStep, Cycle, entry, ClassTable, OneEntry}
 use Rattle.graphs.specs.Term.{var, WellCounted, Replacement, _then_, grown, below, Unifies, FollowsRule, answer}
 use Rattle.graphs.specs.Log.{Join, ends, replay, closed, ranked, clashes, Down, cycles, loops}
 use Rattle.graphs.proofs.Finite as finite
@@ -41,6 +41,23 @@ module _ {S : Symbols} {G : Graph S} {pairs : List Pair} (wf : WellFormed G) (si
   -- Nodes are together exactly where they have one entry.
   pub class-table-classes : {x y : ℕ} → Node G x → Node G y → Same G pairs x y ↔ (entry table x ≡ entry table y)
   class-table-classes n m = (classes.together-one-entry wf sides c, classes.one-entry-together wf sides c n m)
+
+  -- So to have one entry is the smallest equivalence of the kind that document 01 asks for.
+  pub class-table-smallest : Smallest G pairs (OneEntry G table)
+  class-table-smallest = record {
+    closed = record {
+      reflexive = λ x n. (n, n, refl);
+      symmetric = λ x y e. (e .1, e .0, sym (e .2));
+      transitive = λ x y z e f. (e .0, f .1, e .2 ∙ f .2);
+      has-pairs = λ p m. (sides p m .0, sides p m .1, classes.together-one-entry wf sides c (paired p m));
+      has-children = λ x y s xs ys e hx hy i h k. (
+        wf .child-node x _ (i, record { named = s; children = xs; stands = hx; within = h; is = refl }),
+        wf .child-node y _ (i, record { named = s; children = ys; stands = hy; within = k; is = refl }),
+        classes.together-one-entry wf sides c (placed (classes.one-entry-together wf sides c (e .0) (e .1) (e .2)) hx hy i h k),
+      );
+    };
+    least = λ F closed x y e. same-smallest closed (classes.one-entry-together wf sides c (e .0) (e .1) (e .2));
+  }
 
   -- A class has one name, a node of the class that is its own entry.
   pub name-of-name : (x : ℕ) → Node G x → Node G (entry table x) × Same G pairs x (entry table x) × (entry table (entry table x) ≡ entry table x)

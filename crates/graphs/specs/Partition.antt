@@ -47,6 +47,11 @@ pub record Closed {S : Symbols} (G : Graph S) (pairs : List Pair) (E : ℕ → �
   pub has-children : (x y : ℕ) (s : S .Symbol) (xs ys : List ℕ) → E x y → G .head x ≡ symbol s xs → G .head y ≡ symbol s ys
       → (i : ℕ) → i < length xs → i < length ys → E (getD xs i 0) (getD ys i 0)
 
+-- "The partition is the smallest equivalence on nodes" of this kind.
+pub record Smallest {S : Symbols} (G : Graph S) (pairs : List Pair) (E : ℕ → ℕ → Type 0) : Type 1 where
+  pub closed : Closed G pairs E
+  pub least : (F : ℕ → ℕ → Type 0) → Closed G pairs F → (x y : ℕ) → E x y → F x y
+
 -- "A clash is two non-variable nodes together with different symbols."
 pub record Clash {S : Symbols} (G : Graph S) (pairs : List Pair) : Type 0 where
   pub left : ℕ
@@ -100,6 +105,10 @@ pub record ClassTable {S : Symbols} (G : Graph S) (pairs : List Pair) (table : L
   pub long : length table ≡ G .size
   pub named : (x : ℕ) → Node G x → Named G pairs x (entry table x)
   pub empty : (x : ℕ) → G .head x ≡ nothing → entry table x ≡ 0
+
+-- Two nodes have one entry: in the class table they are in one class.
+abbrev pub OneEntry : {S : Symbols} → Graph S → List ℕ → ℕ → ℕ → Type 0
+OneEntry G table x y = Node G x × Node G y × (entry table x ≡ entry table y)
 
 unfoldable pub isNode : {S : Symbols} → Head S → Bool
 isNode nothing = false

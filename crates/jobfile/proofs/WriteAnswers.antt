@@ -14,7 +14,7 @@ use lib.Seq.{take-at}
 use Rattle.rows.specs.Placed.{placed}
 use Rattle.rows.proofs.Laws.{behind-stays}
 use Rattle.words.specs.Limits.{mostBytes, mostJobs}
-use Rattle.answering.proofs.Orders.{answered-only, passed-none}
+use Rattle.answering.proofs.Orders.{answered-alike, answered-only, passed-none}
 use Rattle.jobfile.specs.File.{contentsEnd, jobCount, bodiesSize, fileOf}
 use Rattle.jobfile.specs.Faults.{FileRow, CONTENTS, BODY, FILE, ROOM, fileNumber, WriteFault, contents-refused, body-refused, file-refused, room-refused, writeOrder}
 use Rattle.jobfile.specs.Writer.{numberOf, placeOf, roomWritten, WriteOf}
@@ -145,13 +145,26 @@ answer-by-number Body = refl
 answer-by-number File = refl
 answer-by-number Room = refl
 
+-- What the room held before does not count: rooms of one length have one answer.
+room-alike : {sizes bodies room other : List ℕ} → length room ≡ length other → (row : FileRow) (p : ℕ) → WriteFault sizes bodies room row p → WriteFault sizes bodies other row p
+room-alike e row p (contents-refused x) = contents-refused x
+room-alike e row p (body-refused x) = body-refused x
+room-alike e row p (file-refused x) = file-refused x
+room-alike e row p (room-refused x) = room-refused (omega (arith, e, x))
+
+pub write-answer-only : {sizes bodies room other : List ℕ} {r s : WriteAnswer} {room₁ room₂ : List ℕ} → length room ≡ length other → WriteOf sizes bodies room r room₁
+    → WriteOf sizes bodies other s room₂ → r ≡ s
+write-answer-only {sizes} {bodies} {room} {other} {r} {s} long a b =
+    let same : (numberOf r ≡ numberOf s) × (placeOf r ≡ placeOf s) =
+    answered-only fileNumber (WriteFault sizes bodies room) write-once writeOrder (numberOf r) (placeOf r) (numberOf s) (placeOf s) (a .answered)
+    (answered-alike fileNumber (room-alike (sym long)) (room-alike long) writeOrder (numberOf s) (placeOf s) (b .answered)) in
+    sym (answer-by-number r) ∙ ap answerWith (same .0) ∙ answer-by-number s
+
 -- Two results that the writer's contract allows are equal.
 pub write-only : {sizes bodies room : List ℕ} {r s : WriteAnswer} {room₁ room₂ : List ℕ} → WriteOf sizes bodies room r room₁ → WriteOf sizes bodies room s room₂
     → (r ≡ s) × (room₁ ≡ room₂)
 write-only {sizes} {bodies} {room} {r} {s} a b =
-    let same : (numberOf r ≡ numberOf s) × (placeOf r ≡ placeOf s) =
-    answered-only fileNumber (WriteFault sizes bodies room) write-once writeOrder (numberOf r) (placeOf r) (numberOf s) (placeOf s) (a .answered) (b .answered) in
-    let e : r ≡ s = sym (answer-by-number r) ∙ ap answerWith (same .0) ∙ answer-by-number s in
+    let e : r ≡ s = write-answer-only refl a b in
     (e, a .room-left ∙ ap (λ (q : WriteAnswer). roomWritten q (fileOf sizes bodies) room) e ∙ sym (b .room-left))
 
 -- What no row refuses, the writer writes, where there is room.

@@ -16,9 +16,9 @@ use Rattle.answering.specs.Answers.{Answered, NoneOf}
 use Rattle.answering.proofs.LowestLaws.{neither-below}
 use Rattle.answering.proofs.Orders.{answered-only, passed-none, none-parts, rest-answers}
 use Rattle.graphs.specs.Graph.{Symbols, Graph, variable, Node, WellFormed}
-use Rattle.graphs.specs.Partition.{Pair, pairsOf, _∈_, Sides, Same, Clash, Cycle, entry, ClassTable, joins}
+use Rattle.graphs.specs.Partition.{Pair, pairsOf, _∈_, Sides, Same, Smallest, Clash, Cycle, entry, ClassTable, OneEntry, joins}
 use Rattle.graphs.specs.Term.{WellCounted, Replacement, _then_, Unifies, FollowsRule, answer}
-use Rattle.graphs.proofs.Theorems.{unifier-no-clash, unifier-no-cycle, no-pairs-no-clash, no-pairs-no-cycle, answer-unifies, answer-most-general, answer-follows-rule, answer-only, answer-counted, class-table-classes, first-pairs-grow, class-table-or-clash}
+use Rattle.graphs.proofs.Theorems.{unifier-no-clash, unifier-no-cycle, no-pairs-no-clash, no-pairs-no-cycle, answer-unifies, answer-most-general, answer-follows-rule, answer-only, answer-counted, class-table-classes, class-table-smallest, first-pairs-grow, class-table-or-clash}
 use Rattle.table.specs.Table.{TableSymbols, graphOf}
 use Rattle.table.specs.Faults.{Job, number, Fault, clash-fault, cycle-fault, checkOrder, listRows, pairRows, matchOrder}
 use Rattle.table.proofs.OneAnswer.{fault-once}
@@ -101,6 +101,10 @@ module _ {t list class work : List ℕ} {r : Matched} {class-after work-after : 
   pub accepted-classes : numberOf r ≡ 0 → {x y : ℕ} → Node (graphOf t) x → Node (graphOf t) y
       → Same (graphOf t) (pairsOf list) x y ↔ (entry (take (length t) class-after) x ≡ entry (take (length t) class-after) y)
   accepted-classes z = class-table-classes (has .well-formed) (has .sides) (accepted-class-table z)
+
+  -- To have one entry in it is the smallest equivalence that joins the pairs and the children that must follow.
+  pub accepted-smallest : numberOf r ≡ 0 → Smallest (graphOf t) (pairsOf list) (OneEntry (graphOf t) (take (length t) class-after))
+  accepted-smallest z = class-table-smallest (has .well-formed) (has .sides) (accepted-class-table z)
 
   -- The joins are the number of nodes less the number of classes.
   pub accepted-joins : numberOf r ≡ 0 → joinsOf r ≡ joins (graphOf t) (take (length t) class-after)
