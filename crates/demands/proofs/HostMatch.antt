@@ -50,14 +50,14 @@ module _ {bytes : List ℕ} {job : ℕ} {room : List ℕ} (passes : HostPasses b
 
   -- ---- the rows that the host call passes over
 
-  late : (a p : ℕ) → Answered hostNumber (HostFault bytes job room) hostOrder a p → Answered matchNumber (Fault (jobOf bytes job)) pairRows a p
+  pub late : (a p : ℕ) → Answered hostNumber (HostFault bytes job room) hostOrder a p → Answered matchNumber (Fault (jobOf bytes job)) pairRows a p
   late a p x =
       to-match bytes job room pairRows a p refl
       (rest-answers hostNumber (HostFault bytes job room) (earlyOrder ++ map of-match (tableRows ++ listRows)) (map of-match pairRows) a p passes x)
 
   -- ---- its job passes the checks of a match
 
-  passes-match : Passes (jobOf bytes job)
+  pub passes-match : Passes (jobOf bytes job)
   passes-match =
       let parts = none-parts (HostFault bytes job room) earlyOrder (map of-match (tableRows ++ listRows)) passes in
       let call = none-parts (HostFault bytes job room) (map of-file readOrder) callRows (parts .0) .1 in

@@ -8,3 +8,4 @@ pub mod Packing
 pub mod Entries
 pub mod HostMatch
 pub mod ThereAndBack
+pub mod TwoJobs

@@ -1,4 +1,4 @@
--- Numbers as bytes, over any count of bytes; the job file uses 2 and 4. `number`, `bytesOf` and `numberAt` are the interface;
+-- Numbers as bytes, over any count of bytes; the job file uses 2 and 4. `fromBytes`, `bytesOf` and `numberAt` are the interface;
 -- `AllBytes` is what the laws ask of a row of bytes. Assumes nothing.
 use Prim.Native.Nat.{ℕ, zero, suc, _+_, _*_, _/_, _%_, _<_}
 use mathlib.Core.List.{List, [], _∷_}

@@ -2,7 +2,7 @@
 use mathlib.Core.Path.{_≡_}
 use mathlib.Core.Logic.{_↔_}
 use mathlib.Core.List.{List}
-use Prim.Native.Nat.{ℕ}
+use Prim.Native.Nat.{ℕ, _≤_}
 use lib.ListN.{length, take}
 use Rattle.graphs.specs.Graph.{variable}
 use Rattle.graphs.specs.Partition.{pairsOf}
@@ -18,6 +18,7 @@ use Rattle.demands.specs.HostPasses.{HostPasses}
 use Rattle.matcher.proofs.Demands.{accepted-passes, accepted-exactly, accepted-exactly-counted, answer-makes-equal, answer-well-counted, answer-rule, answer-rule-only, answer-most-general-of-list}
 use Rattle.demands.proofs.Entries.{lent-passes, lent-accepted-exactly, lent-accepted-exactly-counted, lent-answer-makes-equal, lent-answer-well-counted, lent-answer-rule, lent-answer-rule-only, lent-answer-most-general}
 use Rattle.demands.proofs.HostMatch.{accepted-host-passes, host-accepted-exactly, host-accepted-exactly-counted, host-answer-makes-equal, host-answer-well-counted, host-answer-rule, host-answer-rule-only, host-answer-most-general}
+use Rattle.demands.proofs.TwoJobs.{twoJobs, first-passes, second-passes, first-accepted, second-refused}
 
 -- ==== "For a table, list and buffers that pass all checks, the list is accepted exactly when some replacement of the variables by
 -- ==== finite terms makes every pair equal."
@@ -61,6 +62,14 @@ lent-accepted-passes = lent-passes
 
 pub host-call-accepted-passes : {bytes room after : List ℕ} {job r : ℕ} → HostOf bytes job room r after → r ≡ 0 → HostPasses bytes job room
 host-call-accepted-passes = accepted-host-passes
+
+-- and there are calls that pass: both jobs of document 01's file, of which the first is accepted and the second refused
+pub two-jobs-pass : {room : List ℕ} → 40 ≤ length room → HostPasses twoJobs 1 room × HostPasses twoJobs 2 room
+two-jobs-pass enough = (first-passes enough, second-passes enough)
+
+pub two-jobs-answered : {room after : List ℕ} {r : ℕ} → 40 ≤ length room
+    → (HostOf twoJobs 1 room r after → r ≡ 0) × ((h : HostOf twoJobs 2 room r after) → (r ≡ 11) × (h .place ≡ 1))
+two-jobs-answered enough = (first-accepted enough, second-refused enough)
 
 -- ==== "The answer is such a replacement."
 
