@@ -13,15 +13,15 @@ use Rattle.words.specs.declared.kind.Kind.{Kind}
 use Rattle.words.specs.declared.head.Head.{Head}
 use Rattle.words.specs.declared.head.Symbol.{Symbol}
 use Rattle.words.specs.declared.meeting.Outcome.{Outcome}
-use Rattle.words.specs.Head.{sameSymbol}
+use Rattle.words.specs.Head.{symbolWith, sameSymbol}
 use Rattle.words.specs.Meeting.{outcomeOf}
 use Rattle.words.proofs.HeadLaws.{same-symbol-exactly}
 use Rattle.words.proofs.KindLaws.{one-of, every-kind}
 use Rattle.graphs.specs.Graph.{Head as GraphHead, variable, symbol, Node}
 use Rattle.graphs.specs.Partition.{key, keyOf}
 use Rattle.graphs.proofs.Classes.{never}
-use Rattle.table.specs.Table.{TableSymbols, graphOf, degree, choose, kindAt, contentAt, symbolWith, headOf, childrenAt}
-use Rattle.table.specs.Heads.{top, labelAt}
+use Rattle.table.specs.Table.{TableSymbols, graphOf, degree, choose, kindAt, contentAt, labelAt, headOf, childrenAt}
+use Rattle.table.specs.Heads.{top}
 use Rattle.table.specs.Faults.{badKind, badLater, badWord}
 use Rattle.table.specs.Shaped.{Shaped}
 use Rattle.table.proofs.Children.{kind-head, node-kind}
@@ -32,8 +32,8 @@ use Rattle.classes.specs.Steps.Meeting.{OneSymbol}
 
 pub data Seen (t : List ℕ) (x : ℕ) : Type 0 where
   variable-seen : graphOf t .head x ≡ variable → degree t x ≡ 0 → top t x ≡ Head.Variable (labelAt t x) → Seen t x
-  constant-seen : graphOf t .head x ≡ symbol (symbolWith (contentAt t x) 0) [] → degree t x ≡ 0 → top t x ≡ Head.Constant (labelAt t x) → Seen t x
-  function-seen : graphOf t .head x ≡ symbol (symbolWith (contentAt t x) (contentAt t (x + 1))) (childrenAt t x)
+  constant-seen : graphOf t .head x ≡ symbol (symbolWith (labelAt t x) 0) [] → degree t x ≡ 0 → top t x ≡ Head.Constant (labelAt t x) → Seen t x
+  function-seen : graphOf t .head x ≡ symbol (symbolWith (labelAt t x) (contentAt t (x + 1))) (childrenAt t x)
       → (contentAt t (x + 1) ≡ 0 → ⊥) → top t x ≡ Head.Function (labelAt t x) (contentAt t (x + 1)) → Seen t x
 
 -- A function counts an argument, so no constant has its symbol.

@@ -15,6 +15,7 @@ use lib.ListN.{length, getD, take, replicate, length-replicate, getD-replicate}
 use lib.Seq.{getD-take}
 use Rattle.rows.specs.Placed.{zeroed}
 use Rattle.rows.proofs.Laws.{cleared-zero}
+use Rattle.words.specs.Head.{symbolWith}
 use Rattle.words.specs.Word.{kindOf}
 use Rattle.answering.specs.Answers.{Answered}
 use Rattle.answering.proofs.Orders.{passed-none, none-parts}
@@ -24,7 +25,7 @@ use Rattle.graphs.specs.Log.{_and_, allBelow}
 use Rattle.graphs.proofs.Classes.{never}
 use Rattle.graphs.proofs.Replay.{both-true, all-below}
 use Rattle.graphs.proofs.Theorems.{class-table-only}
-use Rattle.table.specs.Table.{TableSymbols, symbolWith, graphOf, headOf}
+use Rattle.table.specs.Table.{TableSymbols, graphOf, headOf}
 use Rattle.table.specs.Faults.{Job, number, Fault, checkOrder, listRows, pairRows, matchOrder}
 use Rattle.matcher.specs.declared.answer.Matched.{Matched}
 use Rattle.matcher.specs.Match.{numberOf, placeOf, joinsOf, jobOf, Passes}
@@ -179,7 +180,7 @@ clears-and-accepts m clears meets =
 cleared-unequal : Unifies (graphOf exampleC) (pairsOf (3 ∷ 1 ∷ [])) (answer (graphOf exampleC) (replicate 4 0)) → ⊥
 unfolding pairsOf answer below tree grown each apply applyAll headOf kindOf
 cleared-unequal equal =
-    let sides : _≡_ {A = Term TableSymbols} (var 0) (app (symbolWith 1 0) Terms.none) = equal (record { left = 3; right = 1 }) (List·Memᴰ·head refl) in
+    let sides : _≡_ {A = Term TableSymbols} (var 0) (app (symbolWith (record { 0 = 1 }) 0) Terms.none) = equal (record { left = 3; right = 1 }) (List·Memᴰ·head refl) in
     never (cc)
 
 accepted-passes : {job : Job} → Answered number (Fault job) matchOrder 0 0 → Passes job

@@ -10,6 +10,7 @@ use mathlib.Core.List.{List, []}
 use Prim.Native.Nat.{ℕ, zero, suc, _+_, _<_}
 use native.Mathlib.Omega.{arith}
 use lib.ListN.{length, getD}
+use Rattle.words.specs.Head.{symbolWith}
 use Rattle.words.specs.Word.{sameKind}
 use Rattle.words.specs.declared.kind.Kind.{Kind}
 use Rattle.words.specs.declared.kind.Kind.the-variants.{Function}
@@ -19,7 +20,7 @@ use Rattle.words.proofs.KindLaws.{every-kind}
 use Rattle.graphs.specs.Graph.{Head, nothing, variable, symbol, Node, Child}
 use Rattle.graphs.specs.Partition.{isNode}
 use Rattle.graphs.proofs.Replay.{is-node, node-is}
-use Rattle.table.specs.Table.{kindAt, contentAt, nodeKind, choose, symbolWith, TableSymbols, named, namedFrom, childrenAt, headOf, graphOf, degree, childOf}
+use Rattle.table.specs.Table.{kindAt, contentAt, nodeKind, choose, labelAt, TableSymbols, named, namedFrom, childrenAt, headOf, graphOf, degree, childOf}
 
 -- ---- heads and nodes by kind
 
@@ -107,7 +108,7 @@ degree-child t x i h =
     let f : (kindAt t x ≡ Function) × (i < contentAt t (x + 1)) = degree-function t x i h in (
       i,
       record {
-        named = symbolWith (contentAt t x) (contentAt t (x + 1));
+        named = symbolWith (labelAt t x) (contentAt t (x + 1));
         children = childrenAt t x;
         stands = kind-head t x (f .0);
         within = omega (arith, named-length t (x + 2) (contentAt t (x + 1)), f .1);

@@ -3,12 +3,8 @@ use mathlib.Core.List.{List}
 use Prim.Native.Nat.{ℕ, _+_}
 use Rattle.words.specs.Word.{sameKind}
 use Rattle.words.specs.declared.kind.Kind.{Kind}
-use Rattle.words.specs.declared.numbers.Label.{Label}
 use Rattle.words.specs.declared.head.Head.{Head}
-use Rattle.table.specs.Table.{choose, kindAt, contentAt}
-
-abbrev pub labelAt : List ℕ → ℕ → Label
-labelAt t x = record { 0 = contentAt t x }
+use Rattle.table.specs.Table.{choose, kindAt, contentAt, labelAt}
 
 -- A function with its label and argument count, or a constant or a variable with its label. A word that is not a node is
 -- taken for a variable; nobody asks for its head.

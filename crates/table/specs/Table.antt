@@ -5,10 +5,12 @@ use mathlib.Core.List.{List, [], _∷_}
 use Prim.Native.Nat.{ℕ, zero, suc, _+_, _<_}
 use native.Mathlib.Decide.{ℕ-discrete}
 use lib.ListN.{length, getD}
+use Rattle.words.specs.Head.{symbolWith}
 use Rattle.words.specs.Word.{sameKind, nodeKinds, isOneOf, kindOf, contentOf}
 use Rattle.words.specs.declared.kind.Kind.{Kind}
 use Rattle.words.specs.declared.kind.Kind.the-variants.{Variable, Constant, Function, Pointer, Count, NoWord}
 use Rattle.words.specs.declared.head.Symbol.{Symbol}
+use Rattle.words.specs.declared.numbers.Label.{Label}
 use Rattle.graphs.specs.Graph.{Symbols, Head, nothing, variable, symbol, Graph}
 
 -- the first where the test passes, and the second where it fails
@@ -26,6 +28,10 @@ kindAt t a = kindOf (wordAt t a)
 abbrev pub contentAt : List ℕ → ℕ → ℕ
 contentAt t a = contentOf (wordAt t a)
 
+-- the label that stands at an address
+abbrev pub labelAt : List ℕ → ℕ → Label
+labelAt t a = record { 0 = contentAt t a }
+
 -- ---- nodes
 
 -- A variable, constant or function word: "Those three kinds of word are the nodes."
@@ -33,10 +39,6 @@ abbrev pub nodeKind : Kind → Bool
 nodeKind k = isOneOf nodeKinds k
 
 -- ---- symbols
-
--- "A symbol is a label with its argument count; a constant counts 0."
-abbrev pub symbolWith : ℕ → ℕ → Symbol
-symbolWith label count = record { label = record { 0 = label }; count = count }
 
 unfoldable pub symbol-decide : Discrete Symbol
 symbol-decide s t = go (ℕ-discrete (s .label .0) (t .label .0)) (ℕ-discrete (s .count) (t .count))
@@ -68,8 +70,8 @@ childrenAt t f = namedFrom t (f + 2) (contentAt t (f + 1))
 
 unfoldable pub headOf : Kind → List ℕ → ℕ → Head TableSymbols
 headOf Variable t x = variable
-headOf Constant t x = symbol (symbolWith (contentAt t x) 0) []
-headOf Function t x = symbol (symbolWith (contentAt t x) (contentAt t (x + 1))) (childrenAt t x)
+headOf Constant t x = symbol (symbolWith (labelAt t x) 0) []
+headOf Function t x = symbol (symbolWith (labelAt t x) (contentAt t (x + 1))) (childrenAt t x)
 headOf Pointer t x = nothing
 headOf Count t x = nothing
 headOf NoWord t x = nothing

@@ -1,5 +1,5 @@
 -- Heads and symbols: what stands at the top of a node. Assumes nothing.
-use Prim.Native.Nat.{_≤_}
+use Prim.Native.Nat.{ℕ, _≤_}
 use mathlib.Core.Bool.{Bool, false, _&&_}
 use lib.Dec.{eqb}
 use Rattle.words.specs.Word.{sameKind}
@@ -27,18 +27,22 @@ labelOf (Variable l) = l
 labelOf (Constant l) = l
 labelOf (Function l n) = l
 
--- the label of a head with its argument count, which is 0 for all but functions
+-- "A symbol is a label with its argument count"
+abbrev pub symbolWith : Label → ℕ → Symbol
+symbolWith label count = record { label = label; count = count }
+
+-- the label of a head with its argument count, which is 0 for all but functions: ".. a constant counts 0."
 abbrev pub labelAndCount : Head → Symbol
-labelAndCount (Variable l) = record { label = l; count = 0 }
-labelAndCount (Constant l) = record { label = l; count = 0 }
-labelAndCount (Function l n) = record { label = l; count = n }
+labelAndCount (Variable l) = symbolWith l 0
+labelAndCount (Constant l) = symbolWith l 0
+labelAndCount (Function l n) = symbolWith l n
 
 -- a symbol, or none
 pub data HeadSymbol : Type 0 where
   One : Symbol → HeadSymbol
   None : HeadSymbol
 
--- "A symbol is a label with its argument count; a constant counts 0." A variable has none.
+-- the symbol of a head; a variable has none
 abbrev pub symbolOf : Head → HeadSymbol
 symbolOf (Variable l) = None
 symbolOf (Constant l) = One (labelAndCount (Constant l))
