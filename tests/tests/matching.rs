@@ -24,6 +24,21 @@ fn p3_a_pair_of_one_node() {
     assert_eq!(matched(&example_b(), &[(3, 3)]), accepted(&[0, 1, 0, 3], 0));
 }
 
+/// "Sides may be equal, and pairs may repeat": a pair that comes again, or again with its sides changed over, adds nothing,
+/// and a refusal stays where it was.
+#[test]
+fn a_pair_again() {
+    let once = matched(&example_a(), &[(1, 9)]);
+    assert_eq!(
+        matched(&example_a(), &[(1, 9), (1, 9), (9, 1), (9, 9)]),
+        once
+    );
+    assert_eq!(
+        matched(&example_c(), &[(3, 1), (3, 1), (1, 3), (3, 2), (3, 2)]),
+        refused(CLASH, 4)
+    );
+}
+
 #[test]
 fn p4_a_variable_and_a_constant() {
     assert_eq!(matched(&example_c(), &[(3, 1)]), accepted(&[0, 1, 2, 1], 1));
