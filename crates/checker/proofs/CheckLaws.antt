@@ -1,8 +1,7 @@
 -- The stages of the check put together.
 --
--- In order: names and loops by their rows; what the shape rows let pass is shaped (`accepted-shaped`, `shape-passed`); the stages
--- (`shape-refused`, `sound-stage`); size and room; the whole (`check-size`, `check-room`, `check-faults`).
--- Assumes nothing.
+-- In order: names and loops by their rows; what the shape rows let pass can be read (`accepted-readable`, `shape-passed`); the
+-- stages (`shape-refused`, `sound-stage`); size and room; the whole (`check-size`, `check-room`, `check-faults`). Assumes nothing.
 use mathlib.Core.Path.{_≡_, refl, sym, ap, _∙_, subst}
 use mathlib.Core.Bool.{Bool, true, false}
 use mathlib.Core.Logic.{_⊎_, inl, inr, ⊎-elim}
@@ -21,8 +20,8 @@ use Rattle.answering.proofs.FaultLaws.{known}
 use Rattle.answering.proofs.Orders.{passed-none, refused-first, none-first}
 use Rattle.answering.proofs.BufferLaws.{later-rows, left-zeroed}
 use Rattle.table.specs.Faults.{sent, Row, Repeats, SIZE, ROOM, NAME, LOOP, number, Fault, size-fault, room-fault, name-fault, loop-fault, shapeRows, tableRows}
-use Rattle.table.specs.Shaped.{Shaped}
-use Rattle.table.proofs.WellFormed.{no-fault-shaped}
+use Rattle.table.specs.Readable.{Readable}
+use Rattle.table.proofs.PassedCheck.{no-fault-readable}
 use Rattle.checker.specs.declared.answer.Checked.{Checked}
 use Rattle.checker.specs.declared.answer.Checked.the-variants.{Accepted, Refused}
 use Rattle.checker.specs.Check.{numberOf, placeOf, jobOf, CheckOf}
@@ -31,7 +30,7 @@ use Rattle.checker.specs.Steps.Sound.{SoundTable}
 use Rattle.checker.specs.Steps.Stage.{ByRows, SizeAndRoom, Stage}
 use Rattle.checker.proofs.LoopLaws.{Loops, LoopSearch}
 use Rattle.checker.proofs.NameLaws.{repeats-inside}
-use Rattle.checker.proofs.Stages.{shaped-accepted}
+use Rattle.checker.proofs.Stages.{readable-accepted}
 
 -- ---- names and loops
 
@@ -80,14 +79,14 @@ lent-later s stage = record {
 
 -- ---- the shape rows
 
--- What the rows 3, 4 and 5 let pass is shaped.
+-- What the rows 3, 4 and 5 let pass can be read.
 module _ {t : List ℕ} (by : ByRows shapeRows t Accepted) where
   none-there : (list : List ℕ) (c w : ℕ) → NoneOf (Fault (sent t list c w)) shapeRows
   unfolding number
   none-there list c w = passed-none number (Fault (sent t list c w)) shapeRows 0 0 refl refl (by list c w) .0
 
-  pub accepted-shaped : 0 < length t → Shaped t
-  accepted-shaped some-word = no-fault-shaped (sent t [] 0 0) some-word (none-there [] 0 0)
+  pub accepted-readable : {class work : List ℕ} → SizeAndRoom t class work → Readable t
+  accepted-readable roomy = no-fault-readable (sent t [] 0 0) (roomy .some-word) (roomy .small) (none-there [] 0 0)
 
   pub shape-passed : {class work class-after work-after : List ℕ} {r : Checked} → Stage (NAME ∷ LOOP ∷ []) t class work r class-after work-after
       → Stage tableRows t class work r class-after work-after
@@ -111,7 +110,7 @@ shape-refused {t} {fault = fault} by =
 -- the walk found the table sound
 pub sound-stage : {t class work between class-after work-after : List ℕ} {sound : Bool} {answer : Checked} → SoundTable t work between sound → sound ≡ true
     → Stage (LOOP ∷ []) t class between answer class-after work-after → Stage tableRows t class work answer class-after work-after
-sound-stage walk e stage = shape-passed (shaped-accepted (walk .shows e .0)) (lent-later (walk .stays) (names-passed (walk .shows e .1) stage))
+sound-stage walk e stage = shape-passed (readable-accepted (walk .shows e .0)) (lent-later (walk .stays) (names-passed (walk .shows e .1) stage))
 
 -- ---- size and room
 

@@ -6,20 +6,19 @@
 use mathlib.Core.Path.{_≡_, refl, sym, ap, _∙_, subst}
 use mathlib.Core.Bool.{Bool, true, false}
 use mathlib.Core.List.{List, _++_}
-use Prim.Native.Nat.{ℕ, zero, suc, _+_, _*_, _≤_, _<_}
+use Prim.Native.Nat.{ℕ, zero, suc, _+_, _*_, _<_}
 use native.Mathlib.Omega.{arith}
 use lib.ListN.{length, getD, drop, length-append, List·getD-append}
 use Rattle.rows.proofs.Laws.{behind-stays, behind-cleared}
-use Rattle.words.specs.Limits.{mostWords}
 use Rattle.graphs.specs.Graph.{Child, Steps}
 use Rattle.graphs.specs.Partition.{entry}
 use Rattle.graphs.proofs.Finite.{steps-map}
-use Rattle.table.specs.Table.{nodeKind, graphOf, degree, childOf}
+use Rattle.table.specs.Table.{graphOf, degree, childOf}
 use Rattle.table.proofs.Children.{NamedChild, named-child, degree-child}
-use Rattle.table.specs.Shaped.{Shaped}
-use Rattle.table.proofs.Shape.{inside-kind, shaped-laid, shaped-degree, shaped-child}
+use Rattle.table.specs.Readable.{Readable}
+use Rattle.table.proofs.Readable.{child-inside}
 use Rattle.cycles.specs.Digraph.{Edge, digraphOf, Returns, Searchable, Searched}
-use Rattle.checker.specs.Steps.Stage.{counting, SizeAndRoom, OnlyFronts}
+use Rattle.checker.specs.Steps.Stage.{counting, OnlyFronts}
 
 -- some node reaches itself, or none does
 abbrev pub Loops : Bool → List ℕ → Type 0
@@ -49,23 +48,16 @@ module _ (t row rest : List ℕ) (own : row ≡ counting 0 (length t) ++ rest) w
       ∙ List·getD-append (counting 0 (length t)) rest 0 x (omega (arith, counting-length 0 (length t)))
       ∙ (let e : getD (counting 0 (length t)) x 0 ≡ x = omega (arith, counting-at 0 (length t) x h) in e)
 
-  module _ (shaped : Shaped t) where
-    child-below : (x i : ℕ) → i < degree t x → childOf t x i < length t
-    child-below x i h = inside-kind t (childOf t x i) nodeKind refl (shaped-child shaped x i h)
-
+  module _ (readable : Readable t) where
     own-child : (x i : ℕ) → i < degree t x → entry row (childOf t x i) ≡ childOf t x i
-    own-child x i h = own-entry (childOf t x i) (child-below x i h)
+    own-child x i h = own-entry (childOf t x i) (child-inside readable x i h)
 
-    pub own-searchable : (work-room : ℕ) → length t ≤ mostWords → 2 * length t ≤ work-room → Searchable t row work-room
-    own-searchable work-room small enough =
+    pub own-searchable : Searchable t row
+    own-searchable =
         record {
-          small = small;
-          laid = shaped-laid shaped;
-          counts = shaped-degree shaped;
+          readable = readable;
           row-room = omega (arith, ap length own, length-append (counting 0 (length t)) rest, counting-length 0 (length t));
-          work-enough = enough;
-          child-inside = child-below;
-          name-inside = λ x i h. omega (arith, own-child x i h, child-below x i h);
+          name-inside = λ x i h. omega (arith, own-child x i h, child-inside readable x i h);
           name-own = λ x i h. ap (entry row) (own-child x i h);
         }
 
@@ -83,11 +75,11 @@ module _ (t row rest : List ℕ) (own : row ≡ counting 0 (length t) ++ rest) w
 
 -- ---- what is kept
 
-pub loop-search : {t class work class-after work-after : List ℕ} {found : Bool} → SizeAndRoom t class work → Shaped t
+pub loop-search : {t class work class-after work-after : List ℕ} {found : Bool} → Readable t
     → class-after ≡ counting 0 (length t) ++ drop (length t) class → Searched t class-after work found work-after → LoopSearch t class work found class-after work-after
-loop-search {t} {class} {work} {class-after} {work-after} {found} roomy shaped own searched =
+loop-search {t} {class} {work} {class-after} {work-after} {found} readable own searched =
     record {
-      truth = loops-found t class-after (drop (length t) class) own shaped found (searched .truth);
+      truth = loops-found t class-after (drop (length t) class) own readable found (searched .truth);
       kept =
           record {
             class-kept = ap (drop (length t)) own ∙ behind-stays (counting 0 (length t)) class (length t) (length t) (counting-length 0 (length t)) (omega arith);

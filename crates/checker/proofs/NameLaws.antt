@@ -22,7 +22,7 @@ use Rattle.words.specs.Limits.{mostWords}
 use Rattle.words.specs.Word.{kindOf}
 use Rattle.words.specs.declared.kind.Kind.the-variants.{Variable}
 use Rattle.table.specs.Table.{wordAt, kindAt, contentAt, nodeKind}
-use Rattle.table.proofs.Shape.{inside-kind}
+use Rattle.table.proofs.Readable.{inside-kind}
 use Rattle.table.specs.Faults.{Repeats}
 use Rattle.checker.specs.Steps.Names.{Either, startOf, headIn, nextIn, RestStays, Chained, ChainedOn, NameJudged, FirstRepeated}
 use Rattle.checker.proofs.ChainLaws.{chains-none, chains-pass, chains-more, InFront}

@@ -5,7 +5,7 @@
 --   variable-good, constant-good, pointer-good   a word whose kind was read
 --   variable-item, constant-item, function-word, count-word, argument-word   one word further
 --   argument-more, arguments-end, walked-block   a count and its arguments
---   walked-shaped, walked-names   the whole table
+--   walked-readable, walked-names   the whole table
 -- Assumes nothing.
 use mathlib.Core.Path.{_≡_, refl, sym, ap, subst, _∙_}
 use mathlib.Core.Bool.{Bool, true, false, cond, _&&_, not}
@@ -15,6 +15,7 @@ use native.Mathlib.Omega.{arith}
 use borrow.Author.Tests.{eq-eqb, leb-true, leb-false, not-true}
 use lib.Dec.{leb}
 use lib.ListN.{length}
+use Rattle.words.specs.Limits.{mostWords}
 use Rattle.words.specs.Word.{sameKind, nodeKinds, argumentKinds, isOneOf, kindOf, contentOf}
 use Rattle.words.specs.declared.kind.Kind.{Kind}
 use Rattle.words.specs.declared.kind.Kind.the-variants.{Variable, Constant, Function, Pointer, Count}
@@ -25,7 +26,7 @@ use Rattle.graphs.proofs.Classes.{never}
 use Rattle.table.specs.Table.{wordAt, kindAt, contentAt}
 use Rattle.table.specs.Layout.{Wanted, item, count, arguments, more, canStand, after, atEnd}
 use Rattle.table.specs.Faults.{badKind, badLater, badTarget, Repeats}
-use Rattle.table.specs.Shaped.{Shaped}
+use Rattle.table.specs.Readable.{Readable}
 use Rattle.checker.specs.Steps.Sound.{soundCount, Good, Walked}
 use Rattle.shape.proofs.LayoutLaws.{break-stands, break-ends}
 use Rattle.checker.proofs.NameLaws.{repeats-inside}
@@ -162,10 +163,11 @@ module _ {t : List ℕ} {b : ℕ} (first : wordAt t 0 ≡ 0) (w : Walked t item 
   all-good zero h = good-first t first
   all-good (suc a) h = w .good (suc a) (omega arith) (omega arith)
 
-  pub walked-shaped : Shaped t
+  pub walked-readable : length t ≤ mostWords → Readable t
   unfolding atEnd
-  walked-shaped = record {
+  walked-readable small = record {
     some-word = omega (arith, w .forth, w .within);
+    small = small;
     words = λ a h e. let g : Good t a = all-good a h in let f = g .word in never (cc);
     whole = w .same ∙ break-ends t b item end;
     pointers = λ a h e. let g : Good t a = all-good a h in let f = g .pointer in never (cc);

@@ -17,7 +17,7 @@ use Rattle.answering.proofs.Orders.{none-first}
 use Rattle.graphs.proofs.Classes.{never}
 use Rattle.table.specs.Layout.{Wanted, item, count, arguments, canStand, after, atEnd, breakFrom}
 use Rattle.table.specs.Faults.{Job, sent, badWord, badPointer, WORD, LAYOUT, POINTER, Fault, word-fault, layout-fault, pointer-fault, number, shapeRows}
-use Rattle.table.specs.Shaped.{Shaped}
+use Rattle.table.specs.Readable.{Readable}
 use Rattle.table.proofs.Blocks.{break-stands, break-stops}
 use Rattle.checker.specs.declared.answer.Checked.the-variants.{Accepted, Refused}
 use Rattle.checker.specs.Steps.Stage.{ByRows}
@@ -34,9 +34,9 @@ module _ {job : Job} where
   no-pointer : {r : ℕ} → First (badPointer (job .table)) (length (job .table)) r → length (job .table) ≤ r → (p : ℕ) → Fault job POINTER p → ⊥
   no-pointer f h p (pointer-fault l) = first-none f h p (l .has)
 
-  -- none of the rows applies to a table that is shaped
-  pub shaped-none : Shaped (job .table) → NoneOf (Fault job) shapeRows
-  shaped-none s = (word, (no-layout (s .whole), (pointer, tt)))
+  -- none of the rows applies to a table that can be read
+  pub readable-none : Readable (job .table) → NoneOf (Fault job) shapeRows
+  readable-none s = (word, (no-layout (s .whole), (pointer, tt)))
     where
       word : (p : ℕ) → Fault job WORD p → ⊥
       word p (word-fault l) = s .words p (l .has .0) (l .has .1)
@@ -45,8 +45,8 @@ module _ {job : Job} where
       pointer p (pointer-fault l) = s .pointers p (l .has .0) (l .has .1)
 
 module _ {t : List ℕ} where
-  pub shaped-accepted : Shaped t → ByRows shapeRows t Accepted
-  shaped-accepted s list c w = none-first number (Fault (sent t list c w)) shapeRows [] 0 0 (shaped-none s) (refl, refl)
+  pub readable-accepted : Readable t → ByRows shapeRows t Accepted
+  readable-accepted s list c w = none-first number (Fault (sent t list c w)) shapeRows [] 0 0 (readable-none s) (refl, refl)
 
   pub bad-word : {r : ℕ} → First (badWord t) (length t) r → r < length t → ByRows shapeRows t (Refused (Word (record { 0 = r })))
   unfolding number

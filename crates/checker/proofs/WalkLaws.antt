@@ -20,7 +20,7 @@ use Rattle.table.specs.Faults.{badTarget, Repeats}
 use Rattle.checker.specs.Steps.Names.{RestStays, Chained, NameJudged}
 use Rattle.checker.specs.Steps.Sound.{soundCount, Walked, AsArgument, AsArguments, NextItem, SoundTable}
 use Rattle.checker.proofs.NameLaws.{stays-same, stays-on, chained-pass, judged-stays}
-use Rattle.checker.proofs.SoundLaws.{sound-count, variable-good, constant-good, pointer-good, variable-item, constant-item, walked-none, walked-on, argument-more, arguments-end, walked-block, walked-shaped, walked-names}
+use Rattle.checker.proofs.SoundLaws.{sound-count, variable-good, constant-good, pointer-good, variable-item, constant-item, walked-none, walked-on, argument-more, arguments-end, walked-block, walked-readable, walked-names}
 
 -- a name that was judged to be new
 new-name : {t entry exit : List ℕ} {a : ℕ} {repeated : Bool} → NameJudged t entry exit a repeated → repeated ≡ false → (Repeats t a → ⊥) × Chained t exit (a + 1)
@@ -146,5 +146,5 @@ module _ {t entry work : List ℕ} {a : ℕ} (y : ItemsYet t entry work a) where
   pub sound-table : {before : List ℕ} → RestStays t before entry → wordAt t 0 ≡ 0 → length t ≤ a → SoundTable t before work true
   sound-table s first end = record {
     stays = stays-on s (y .stays);
-    shows = λ e. (walked-shaped first (y .walked) end, walked-names first (y .walked) end);
+    shows = λ e. (walked-readable first (y .walked) end (y .chained .small), walked-names first (y .walked) end);
   }

@@ -5,7 +5,7 @@ ghost use Prim.Native.Nat.{_≤_};
 ghost use lib.ListN.{length, drop};
 ghost use Rattle.words.specs.Limits.{mostWords};
 ghost use Rattle.table.specs.Faults.{LOOP};
-ghost use Rattle.table.specs.Shaped.{Shaped};
+ghost use Rattle.table.specs.Readable.{Readable};
 ghost use Rattle.checker.specs.Steps.Stage.{counting, SizeAndRoom, Stage};
 use crate::answer::Checked;
 use answering::fault::TableFault;
@@ -22,9 +22,9 @@ fn own_classes(class: &mut [u16], n: usize)
     }
 }
 
-// The answer by row 7, for a table whose shape is sound.
+// The answer by row 7, for a table that can be read.
 pub(crate) fn loops_alone(table: &[u32], class: &mut [u16], work: &mut [u16]) -> Checked
-    requires { ⌜ SizeAndRoom (now table) (now class) (now work) × Shaped (now table) ⌝ }
+    requires { ⌜ SizeAndRoom (now table) (now class) (now work) × Readable (now table) ⌝ }
     ensures { λ r. ⌜ Stage (LOOP ∷ []) (now (table .entry)) (now (class .entry)) (now (work .entry)) r (now (class .exit)) (now (work .exit)) ⌝ }
 {
     own_classes(class, table.len());

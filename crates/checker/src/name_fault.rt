@@ -14,6 +14,7 @@ ghost use lib.ListN.{length};
 ghost use Rattle.words.specs.Limits.{mostWords};
 ghost use Rattle.words.specs.declared.kind.Kind.{Kind};
 ghost use Rattle.table.specs.Faults.{Repeats};
+ghost use Rattle.table.specs.Readable.{Readable};
 ghost use Rattle.table.specs.Table.{wordAt, kindAt, contentAt};
 ghost use Rattle.checker.specs.Steps.Names.{Either, startOf, Chained, ChainedOn, NameJudged, FirstRepeated};
 use words::kind::Kind;
@@ -108,7 +109,7 @@ pub(crate) fn begin_chains(table: &[u32], work: &mut [u16])
 // The lowest address of a variable whose label stood earlier, or the table's length where there is
 // none. The first 4n entries of the work row are written over, and nothing is said of them.
 pub(crate) fn first_repeated_name(table: &[u32], work: &mut [u16]) -> usize
-    requires { ⌜ (0 < length (now table)) × (length (now table) ≤ mostWords) × (4 * length (now table) ≤ length (now work)) × (wordAt (now table) 0 ≡ 0) ⌝ }
+    requires { ⌜ Readable (now table) × (4 * length (now table) ≤ length (now work)) ⌝ }
     ensures { λ r. ⌜ FirstRepeated (now (table .entry)) (now (work .entry)) (now (work .exit)) r ⌝ }
 {
     begin_chains(table, work);

@@ -15,10 +15,11 @@ use Rattle.graphs.specs.Graph.{Symbols, Graph, nothing, variable, symbol, Node,
 use Rattle.graphs.specs.Partition.{Pair, Sides, Same, itself, paired, Clash, Named, by-non-variable, by-variable, ClassTable, entry, bit, count, classes, key}
 use Rattle.graphs.proofs.Classes.{never, node-or-nothing, same-labels, same-nodes, together-one-entry, entry-together}
 use Rattle.graphs.proofs.Certificates.{key-symbol, key-variable, key-nothing, first-names}
+use Rattle.table.specs.Readable.{PassedCheck}
 use Rattle.table.specs.Table.{TableSymbols, graphOf, degree, childOf}
 use Rattle.table.proofs.Children.{symbol-length, symbol-child}
 use Rattle.classes.specs.Steps.Forest.{Flattened}
-use Rattle.classes.specs.Steps.Meeting.{PassedCheck, OneSymbol, State, Within, Agrees, Complete, Moved}
+use Rattle.classes.specs.Steps.Meeting.{OneSymbol, State, Within, Agrees, Complete, Moved}
 use Rattle.classes.proofs.Symbols.{head-of-degree, head-0, one-symbol-children}
 use Rattle.classes.proofs.Shortened.{config, shorter-moved}
 
@@ -180,7 +181,7 @@ module _ {t : List ℕ} (row work : List ℕ) {earlier : List Pair} (checked : P
 
   inside-at : (x : ℕ) → x < length t → Node (graphOf t) x ⊎ (graphOf t .head x ≡ nothing) → entry row x < length t
   inside-at x h (inl n) = checked .well-formed .inside (entry row x) (node-at x n)
-  inside-at x h (inr e) = omega (arith, checked .shaped .some-word, empty-at x h e)
+  inside-at x h (inr e) = omega (arith, checked .readable .some-word, empty-at x h e)
 
   falls-at : (x : ℕ) → x < length t → Node (graphOf t) x ⊎ (graphOf t .head x ≡ nothing) → (entry row x ≡ x) ⊎ (key (graphOf t) (entry row x) < key (graphOf t) x)
   falls-at x h (inl n) = named-falls (checked .well-formed) n (named-at x n)
@@ -193,7 +194,7 @@ module _ {t : List ℕ} (row work : List ℕ) {earlier : List Pair} (checked : P
             arith,
             key-nothing (graphOf t) e,
             ap (key (graphOf t)) (empty-at x h e),
-            key-nothing (graphOf t) (head-0 t (checked .shaped)),
+            key-nothing (graphOf t) (head-0 t (checked .readable)),
           ))
 
   start-state : State t row work 0

@@ -10,8 +10,9 @@ use Prim.Native.Nat.{ℕ, zero, suc, _+_, _-_, _*_, _≤_, _<_}
 use native.Mathlib.Decide.{ℕ-discrete}
 use native.Mathlib.Omega.{arith}
 use Rattle.graphs.specs.Partition.{Pair, _∈_, Same, classes}
+use Rattle.table.specs.Readable.{PassedCheck}
 use Rattle.table.specs.Table.{graphOf, degree, childOf}
-use Rattle.classes.specs.Steps.Meeting.{PassedCheck, OneSymbol, waitingLeft, waitingRight, State, Within, Agrees, Complete, Moved, Turned, went-on, clashed, Meets, GoesDown, childPairs, Settled, all-joined, clash-met}
+use Rattle.classes.specs.Steps.Meeting.{OneSymbol, waitingLeft, waitingRight, State, Within, Agrees, Complete, Moved, Turned, went-on, clashed, Meets, GoesDown, childPairs, Settled, all-joined, clash-met}
 use Rattle.classes.specs.declared.meet.Turn.{Turn}
 use Rattle.classes.proofs.Symbols.{one-symbol-children}
 use Rattle.classes.proofs.Moves.{moved-none, moved-join, stopped-after, waiting-moved, clash-stops}

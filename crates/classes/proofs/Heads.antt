@@ -23,9 +23,9 @@ use Rattle.graphs.proofs.Classes.{never}
 use Rattle.table.specs.Table.{TableSymbols, graphOf, degree, choose, kindAt, contentAt, labelAt, headOf, childrenAt}
 use Rattle.table.specs.Heads.{top}
 use Rattle.table.specs.Faults.{badKind, badLater, badWord}
-use Rattle.table.specs.Shaped.{Shaped}
+use Rattle.table.specs.Readable.{Readable}
 use Rattle.table.proofs.Children.{kind-head, node-kind}
-use Rattle.table.proofs.Shape.{block-count, shaped-laid}
+use Rattle.table.proofs.Readable.{block-count, block-inside}
 use Rattle.classes.specs.Steps.Meeting.{OneSymbol}
 
 -- ---- what stands at a node
@@ -37,18 +37,18 @@ pub data Seen (t : List ℕ) (x : ℕ) : Type 0 where
       → (contentAt t (x + 1) ≡ 0 → ⊥) → top t x ≡ Head.Function (labelAt t x) (contentAt t (x + 1)) → Seen t x
 
 -- A function counts an argument, so no constant has its symbol.
-function-counts : {t : List ℕ} → Shaped t → (x : ℕ) → kindAt t x ≡ Kind.Function → contentAt t (x + 1) ≡ 0 → ⊥
+function-counts : {t : List ℕ} → Readable t → (x : ℕ) → kindAt t x ≡ Kind.Function → contentAt t (x + 1) ≡ 0 → ⊥
 unfolding badKind badLater
-function-counts {t} shaped x f z = shaped .words (suc x) inside bad
+function-counts {t} readable x f z = readable .words (suc x) inside bad
   where
     at : x + 1 ≡ suc x
     at = omega arith
 
     counted : kindAt t (suc x) ≡ Kind.Count
-    counted = subst (λ (y : ℕ). kindAt t y ≡ Kind.Count) at (block-count shaped x f)
+    counted = subst (λ (y : ℕ). kindAt t y ≡ Kind.Count) at (block-count readable x f)
 
     inside : suc x < length t
-    inside = omega (arith, shaped-laid shaped x f)
+    inside = omega (arith, block-inside readable x f)
 
     bad : badWord t (suc x) ≡ true
     bad = ap₂ badKind counted (subst (λ (y : ℕ). contentAt t y ≡ 0) at z)
@@ -78,14 +78,14 @@ module _ (t : List ℕ) (x : ℕ) where
   pub key-at : {h k : Head} → h ≡ top t x → h ≡ k → keyBy k ≡ key (graphOf t) x
   key-at e f = ap keyBy (sym f ∙ e) ∙ sym key-by-top
 
-pub see : {t : List ℕ} → Shaped t → (x : ℕ) → Node (graphOf t) x → Seen t x
+pub see : {t : List ℕ} → Readable t → (x : ℕ) → Node (graphOf t) x → Seen t x
 unfolding topAs choose headOf
-see {t} shaped x n =
+see {t} readable x n =
     one-of (λ k. kindAt t x ≡ k → Seen t x) nodeKinds (
       (λ e. variable-seen (kind-head t x e) (degree-at t x e) (top-at t x e)),
       (
         (λ e. constant-seen (kind-head t x e) (degree-at t x e) (top-at t x e)),
-        ((λ e. function-seen (kind-head t x e) (function-counts shaped x e) (top-at t x e)), tt),
+        ((λ e. function-seen (kind-head t x e) (function-counts readable x e) (top-at t x e)), tt),
       ),
     )
     (kindAt t x) (node-kind t x n) refl
@@ -131,8 +131,8 @@ module _ (t : List ℕ) (a b : ℕ) {s u : Symbol} {xs ys : List ℕ} (ha : grap
   agreed o say true e = say (one-symbol (same-symbol-exactly s u .0 e))
   agreed o say false e = two-symbols (λ p. let h : sameSymbol s u ≡ true = same-symbol-exactly s u .1 p in never (cc))
 
-pub said : {t : List ℕ} → Shaped t → (a b : ℕ) → Node (graphOf t) a → Node (graphOf t) b → Said t a b (outcomeOf (top t a) (top t b))
-said {t} shaped a b na nb = go (see shaped a na) (see shaped b nb)
+pub said : {t : List ℕ} → Readable t → (a b : ℕ) → Node (graphOf t) a → Node (graphOf t) b → Said t a b (outcomeOf (top t a) (top t b))
+said {t} readable a b na nb = go (see readable a na) (see readable b nb)
   where
     to : {h k : Head} → top t a ≡ h → top t b ≡ k → Said t a b (outcomeOf h k) → Said t a b (outcomeOf (top t a) (top t b))
     to p q r = subst (Said t a b) (sym (ap₂ outcomeOf p q)) r
@@ -149,6 +149,6 @@ said {t} shaped a b na nb = go (see shaped a na) (see shaped b nb)
     go (function-seen h c e) (function-seen i d g) = to e g (agreed t a b h i Outcome.JoinedGoDown (λ o. o) _ refl)
 
 -- the same, at what the functions return
-pub said-at : {t : List ℕ} → Shaped t → (a b : ℕ) → Node (graphOf t) a → Node (graphOf t) b
+pub said-at : {t : List ℕ} → Readable t → (a b : ℕ) → Node (graphOf t) a → Node (graphOf t) b
     → {h k : Head} {o p : Outcome} → h ≡ top t a → k ≡ top t b → o ≡ outcomeOf h k → o ≡ p → Said t a b p
-said-at {t} shaped a b na nb eh ek eo ep = subst (Said t a b) (sym (ap₂ outcomeOf eh ek) ∙ sym eo ∙ ep) (said shaped a b na nb)
+said-at {t} readable a b na nb eh ek eo ep = subst (Said t a b) (sym (ap₂ outcomeOf eh ek) ∙ sym eo ∙ ep) (said readable a b na nb)

@@ -7,8 +7,9 @@ use native.Mathlib.Decide.{ℕ-discrete}
 use native.Mathlib.Omega.{arith}
 use Rattle.words.specs.declared.numbers.Address.{Address}
 use Rattle.graphs.specs.Partition.{Pair, Same, swapped, key}
+use Rattle.table.specs.Readable.{PassedCheck}
 use Rattle.table.specs.Table.{graphOf}
-use Rattle.classes.specs.Steps.Meeting.{PassedCheck, State, Within, Agrees, Complete, Moved, Meets, Roots, Ordered}
+use Rattle.classes.specs.Steps.Meeting.{State, Within, Agrees, Complete, Moved, Meets, Roots, Ordered}
 use Rattle.classes.specs.declared.meet.Turn.{Turn}
 use Rattle.classes.proofs.Linked.{key-only}
 use Rattle.classes.proofs.Moves.{turned-after}

@@ -16,9 +16,10 @@ use Rattle.graphs.specs.Graph.{variable, symbol, Node, variable-node, symbol-no
 use Rattle.graphs.specs.Partition.{Pair, Same, swapped, entry, isNode, classes, key}
 use Rattle.graphs.proofs.Certificates.{key-symbol, key-variable}
 use Rattle.graphs.proofs.Classes.{never, nothing-no-node}
+use Rattle.table.specs.Readable.{PassedCheck}
 use Rattle.table.specs.Table.{TableSymbols, graphOf, degree, childOf}
 use Rattle.classes.specs.Steps.Forest.{Forest}
-use Rattle.classes.specs.Steps.Meeting.{PassedCheck, OneSymbol, waitingLeft, waitingRight, State, Config, Within, Agrees, Complete, Moved, Stopped, Ordered}
+use Rattle.classes.specs.Steps.Meeting.{OneSymbol, waitingLeft, waitingRight, State, Config, Within, Agrees, Complete, Moved, Stopped, Ordered}
 use Rattle.classes.proofs.Symbols.{one-symbol-degree, head-of-degree}
 use Rattle.classes.proofs.Heads.{Plain, left-variable, right-variable, constants, DifferentSymbols}
 use Rattle.classes.proofs.Counts.{count-one, ownNode, own-counts, other-passes}

@@ -13,11 +13,12 @@ use lib.Seq.{take-length}
 use Rattle.graphs.specs.Graph.{Node}
 use Rattle.graphs.specs.Partition.{Pair, pairsOf, _∈_, Sides, Same, paired, Clash}
 use Rattle.graphs.proofs.Classes.{same-grows, first-pairs-grow}
+use Rattle.table.specs.Readable.{PassedCheck}
 use Rattle.table.specs.Table.{graphOf}
 use Rattle.table.specs.Faults.{pairAt}
 use Rattle.table.proofs.Pairs.{pairAt-entries}
 use Rattle.classes.specs.Steps.Forest.{Forest}
-use Rattle.classes.specs.Steps.Meeting.{PassedCheck, State, Within, Agrees, Complete, Settled}
+use Rattle.classes.specs.Steps.Meeting.{State, Within, Agrees, Complete, Settled}
 use Rattle.classes.specs.Steps.Lists.{JoinsPair, resting, Holding, JoinedBefore, ClashesAt, EachJoined}
 use Rattle.classes.proofs.Links.{shorter-none, root-exists}
 use Rattle.classes.proofs.Flat.{Flat, led-now, flat-none, flat-forest, flat-more, flat-all}

@@ -10,19 +10,16 @@ use Rattle.rows.specs.Placed.{zeroed}
 use Rattle.graphs.specs.Partition.{Pair, pairsOf, Sides, Clash, ClassTable}
 use Rattle.table.specs.Table.{graphOf}
 use Rattle.classes.specs.Steps.Forest.{Forest, Flattened}
-use Rattle.classes.specs.Steps.Meeting.{PassedCheck, State}
+use Rattle.classes.specs.Steps.Meeting.{State}
 use Rattle.classes.specs.Steps.Lists.{Holding, JoinedBefore, ClashesAt, EachJoined}
 use Rattle.classes.specs.Joining.{Joinable, CanJoin, JoinOf}
 use Rattle.classes.specs.declared.joining.Joined.{Joined}
 use Rattle.classes.proofs.ClassTables.{flat-class-table, class-table-start}
 
-pub passed-check : {t list class : List ℕ} {earlier : List Pair} {work-room : ℕ} → Joinable t earlier list class work-room → PassedCheck t
-passed-check j = record { small = j .small; shaped = j .shaped; well-formed = j .well-formed }
-
 module _ {t list class work : List ℕ} where
   starting : {earlier : List Pair} → Joinable t earlier list class (length work) → State t class work 0 × Holding t earlier class work
   starting j =
-      let s : _ = class-table-start class work (passed-check j) (j .earlier-sides) (j .class-room) (j .class-table) (j .no-clash) (j .work-enough) in
+      let s : _ = class-table-start class work (j .passed) (j .earlier-sides) (j .class-room) (j .class-table) (j .no-clash) (j .work-enough) in
       (s .0, record { within = s .1; complete = s .2 })
 
   pub starting-state : CanJoin t list class (length work) → State t class work 0
@@ -57,7 +54,7 @@ module _ {t list class work : List ℕ} where
           outcome = λ earlier j.
               let held : Holding t (earlier ++ pairsOf list) class-each work-each = subst (λ (p : List Pair). Holding t (earlier ++ p) class-each work-each) (take-all i (pairsOf list) h) (b .holding earlier (starting j .1)) in
               let both : Sides (graphOf t) (earlier ++ pairsOf list) = (λ p m. ⊎-elim (j .earlier-sides p) (j .sides p) (List·Memᴰ·append-cases earlier m)) in
-              let c : ClassTable (graphOf t) (earlier ++ pairsOf list) (take (length t) class-after) × (Clash (graphOf t) (earlier ++ pairsOf list) → ⊥) = flat-class-table (passed-check j) both (b .state) (held .within) (held .complete) flat in
+              let c : ClassTable (graphOf t) (earlier ++ pairsOf list) (take (length t) class-after) × (Clash (graphOf t) (earlier ++ pairsOf list) → ⊥) = flat-class-table (j .passed) both (b .state) (held .within) (held .complete) flat in
               record { class-table = c .0; no-clash = c .1; behind = flat .shorter .behind ∙ b .kept .row-behind };
           cleared = work-left (b .kept .work-behind);
         }

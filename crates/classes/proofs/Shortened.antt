@@ -11,9 +11,10 @@ use lib.Dec.{eqb}
 use lib.ListN.{length}
 use Rattle.graphs.specs.Graph.{Symbols, Graph, nothing, symbol, Node, symbol-node}
 use Rattle.graphs.specs.Partition.{Pair, _∈_, Same, itself, swapped, through, entry, isNode, classes}
+use Rattle.table.specs.Readable.{PassedCheck}
 use Rattle.table.specs.Table.{TableSymbols, graphOf, degree, childOf}
 use Rattle.classes.specs.Steps.Forest.{Up, here, up, Shorter, Rooted}
-use Rattle.classes.specs.Steps.Meeting.{PassedCheck, OneSymbol, State, Config, Within, Agrees, Complete, Moved, Roots}
+use Rattle.classes.specs.Steps.Meeting.{OneSymbol, State, Config, Within, Agrees, Complete, Moved, Roots}
 use Rattle.classes.proofs.Counts.{count-same}
 use Rattle.classes.proofs.Moves.{moved-join}
 use Rattle.classes.proofs.Symbols.{head-of-degree, head-0, one-symbol-degree}
@@ -70,7 +71,7 @@ module _ {t row work : List ℕ} {waiting : ℕ} (checked : PassedCheck t) (stat
   up-empty : {x y : ℕ} → x < length t → graphOf t .head x ≡ nothing → Up row x y → (y ≡ x) ⊎ (y ≡ 0)
   up-empty h e here = inl refl
   up-empty h e (up {x} {y} u) =
-      inr (root-stops (state .empty 0 (checked .shaped .some-word) (head-0 t (checked .shaped))) (subst (λ (z : ℕ). Up row z y) (state .empty x h e) u))
+      inr (root-stops (state .empty 0 (checked .readable .some-word) (head-0 t (checked .readable))) (subst (λ (z : ℕ). Up row z y) (state .empty x h e) u))
 
   pub up-same : {pairs owed : List Pair} → Within t pairs (config row work waiting owed) → {x y : ℕ} → Node (graphOf t) x → Up row x y → Same (graphOf t) pairs x y
   up-same w n here = itself n

@@ -8,18 +8,18 @@ use lib.ListN.{length, getD}
 use Rattle.graphs.specs.Graph.{nothing, symbol, Node, Child, WellFormed}
 use Rattle.graphs.specs.Partition.{Pair, Same, placed}
 use Rattle.table.specs.Table.{TableSymbols, headOf, graphOf, degree, childOf}
-use Rattle.table.specs.Shaped.{Shaped}
+use Rattle.table.specs.Readable.{Readable}
 use Rattle.table.proofs.Children.{kind-head, symbol-count, symbol-length, symbol-child, degree-child}
-use Rattle.table.proofs.Shape.{kind-0}
+use Rattle.table.proofs.Readable.{kind-0}
 use Rattle.classes.specs.Steps.Meeting.{OneSymbol}
 
 -- what has a child has a symbol
 pub head-of-degree : (t : List ℕ) (x i : ℕ) → i < degree t x → (s : TableSymbols .Symbol) × (xs : List ℕ) × (graphOf t .head x ≡ symbol s xs)
 head-of-degree t x i h = let c : Child (graphOf t) x (childOf t x i) = degree-child t x i h in (c .1 .named, c .1 .children, c .1 .stands)
 
-pub head-0 : (t : List ℕ) → Shaped t → graphOf t .head 0 ≡ nothing
+pub head-0 : (t : List ℕ) → Readable t → graphOf t .head 0 ≡ nothing
 unfolding headOf
-head-0 t shaped = kind-head t 0 (kind-0 shaped)
+head-0 t readable = kind-head t 0 (kind-0 readable)
 
 module _ (t : List ℕ) (wf : WellFormed (graphOf t)) where
   pub child-node : (x i : ℕ) → i < degree t x → Node (graphOf t) (childOf t x i)

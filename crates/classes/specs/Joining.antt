@@ -4,19 +4,15 @@ use mathlib.Core.List.{List, _++_}
 use Prim.Native.Nat.{ℕ, _+_, _*_, _≤_, _<_}
 use lib.ListN.{length, take, drop}
 use Rattle.rows.specs.Placed.{zeroed}
-use Rattle.words.specs.Limits.{mostWords}
-use Rattle.graphs.specs.Graph.{WellFormed}
 use Rattle.graphs.specs.Partition.{Pair, pairsOf, Sides, Clash, ClassTable}
 use Rattle.table.specs.Table.{graphOf}
-use Rattle.table.specs.Shaped.{Shaped}
+use Rattle.table.specs.Readable.{PassedCheck}
 use Rattle.classes.specs.declared.joining.Joined.{Joined}
 
 -- What a join asks: a table that passed its check; a class row that begins with the class table of the pairs joined earlier,
 -- which have no clash; a list of nodes, with no more pairs than a pair number can count; and two entries of work for each word.
 pub record Joinable (t : List ℕ) (earlier : List Pair) (list class : List ℕ) (work-room : ℕ) : Type 0 where
-  pub small : length t ≤ mostWords
-  pub shaped : Shaped t
-  pub well-formed : WellFormed (graphOf t)
+  pub passed : PassedCheck t
   pub class-room : length t ≤ length class
   pub work-enough : 2 * length t ≤ work-room
   pub earlier-sides : Sides (graphOf t) earlier

@@ -2,10 +2,11 @@
 ghost use lib.ListN.{length};
 ghost use Rattle.graphs.specs.Graph.{Node};
 ghost use Rattle.graphs.specs.Partition.{pairsOf, Sides};
+ghost use Rattle.table.specs.Readable.{PassedCheck};
 ghost use Rattle.table.specs.Table.{graphOf};
 ghost use Rattle.classes.specs.Joining.{CanJoin, JoinOf};
 ghost use Rattle.classes.specs.Steps.Lists.{JoinsPair, EachJoined};
-ghost use Rattle.classes.specs.Steps.Meeting.{PassedCheck, State};
+ghost use Rattle.classes.specs.Steps.Meeting.{State};
 use crate::flatten;
 use crate::meet;
 use crate::meet::Turn;

@@ -5,8 +5,9 @@ ghost use lib.ListN.{length, set};
 ghost use Rattle.words.specs.Limits.{mostWords};
 ghost use Rattle.graphs.specs.Graph.{Node};
 ghost use Rattle.graphs.specs.Partition.{key as keyIn};
-ghost use Rattle.table.specs.Table.{graphOf, Laid};
-ghost use Rattle.classes.specs.Steps.Meeting.{PassedCheck, State, Meets, Ordered, Roots};
+ghost use Rattle.table.specs.Readable.{Readable, PassedCheck};
+ghost use Rattle.table.specs.Table.{graphOf};
+ghost use Rattle.classes.specs.Steps.Meeting.{State, Meets, Ordered, Roots};
 use crate::forest;
 use words::head::Head;
 use words::meeting;
@@ -21,7 +22,7 @@ pub enum Turn {
 
 // The place of a node in the naming order: non-variables before variables, and then by address.
 fn key(table: &[u32], x: Address) -> usize
-    requires { ⌜ Laid (now table) × (x .0 < length (now table)) ⌝ }
+    requires { ⌜ Readable (now table) × (x .0 < length (now table)) ⌝ }
     ensures { λ r. ⌜ r ≡ keyIn (graphOf (now (table .entry))) (x .0) ⌝ }
 {
     match table::head(table, x) {

@@ -1,6 +1,7 @@
 // Waiting pairs of functions go down to their children, until none waits.
 ghost use Prim.Native.Nat.{_-_, _<_};
-ghost use Rattle.classes.specs.Steps.Meeting.{PassedCheck, OneSymbol, waitingLeft, waitingRight, State, GoesDown, Settles};
+ghost use Rattle.table.specs.Readable.{PassedCheck};
+ghost use Rattle.classes.specs.Steps.Meeting.{OneSymbol, waitingLeft, waitingRight, State, GoesDown, Settles};
 use crate::meet;
 use crate::meet::Turn;
 use words::numbers::Address;

@@ -13,8 +13,8 @@ use borrow.Author.Tests.{not-true, eq-eqb, ne-eqb}
 use Rattle.words.specs.Word.{sameKind}
 use Rattle.words.specs.declared.kind.Kind.the-variants.{Function}
 use Rattle.table.specs.Table.{choose, kindAt, contentAt, degree}
-use Rattle.cycles.specs.Digraph.{Digraph, digraphOf}
-use Rattle.cycles.specs.Steps.Marks.{SearchableRows, mark, finishedMark, Safe, Search, Open, Sure, Over, Passed}
+use Rattle.cycles.specs.Digraph.{Digraph, digraphOf, Searchable}
+use Rattle.cycles.specs.Steps.Marks.{mark, finishedMark, Safe, Search, Open, Sure, Over, Passed}
 use Rattle.cycles.proofs.Moves.{finished-safe}
 use Rattle.cycles.proofs.Answers.{no-edges-safe}
 
@@ -57,7 +57,7 @@ over-join {D} {x} {i} {j} {k} p q =
     go z h l (no m) = q .ends z (omega arith) l
 
 -- one turn of the loop, by what it read: the vertex y to which edge j leads, and whether y is open
-module _ {t row w : List ℕ} {x i j y : ℕ} {answer : Bool} (ready : SearchableRows t row) (known : Sure (digraphOf t row) w) (over : Over (digraphOf t row) x i j)
+module _ {t row w : List ℕ} {x i j y : ℕ} {answer : Bool} (ready : Searchable t row) (known : Sure (digraphOf t row) w) (over : Over (digraphOf t row) x i j)
     (more : j < degree t x) (leads : y ≡ digraphOf t row .next x j) (told : Open (degree t y) (mark w y) answer) where
   pub over-next : answer ≡ false → Over (digraphOf t row) x i (j + 1)
   over-next e =

@@ -11,8 +11,9 @@ use lib.ListN.{length, getD, set, drop, replicate}
 use Rattle.rows.specs.Placed.{zeroed}
 use Rattle.rows.proofs.Laws.{behind-cleared, cleared-zero}
 use Rattle.graphs.specs.Partition.{entry}
+use Rattle.table.proofs.Readable.{degree-small}
 use Rattle.cycles.specs.Digraph.{Digraph, Edge, digraphOf, Searchable, Searched}
-use Rattle.cycles.specs.Steps.Marks.{SearchableRows, mark, Safe, Search, Grown, FoundCycle, Ended, FromRoot, Visited, Told}
+use Rattle.cycles.specs.Steps.Marks.{mark, Safe, Search, Grown, FoundCycle, Ended, FromRoot, Visited, Told}
 use Rattle.cycles.proofs.Stores.{grown-none, grown-join}
 use Rattle.cycles.proofs.Answers.{start, none, begun-safe}
 use Rattle.cycles.proofs.Turns.{SearchTurned, started-at, end-begun}
@@ -88,7 +89,7 @@ module _ {D : Digraph} {row before work after : List ℕ} {x : ℕ} {found : Boo
       go z h own (no p) = swept .ends z (omega arith) own
 
 -- Edges lead to names alone: where every walk from a name ends, nothing is left to find.
-pub swept-all : {t row before work : List ℕ} {x : ℕ} → SearchableRows t row → Swept (digraphOf t row) row before work x → length t ≤ x
+pub swept-all : {t row before work : List ℕ} {x : ℕ} → Searchable t row → Swept (digraphOf t row) row before work x → length t ≤ x
     → Told (digraphOf t row) before work false
 swept-all {t} {row} {before} {work} {x} ready swept all =
     record {
@@ -104,26 +105,11 @@ swept-all {t} {row} {before} {work} {x} ready swept all =
 
 -- ---- the whole
 
-module _ {t row : List ℕ} (work : List ℕ) (asked : Searchable t row (length work)) where
-  pub ready : SearchableRows t row
-  ready =
-      record {
-        small = asked .small;
-        laid = asked .laid;
-        counts = asked .counts;
-        row-room = asked .row-room;
-        work-enough = omega arith;
-        child-inside = asked .child-inside;
-        name-inside = asked .name-inside;
-        name-own = asked .name-own;
-      }
-
-  -- after the first clearing
-  pub started : {work′ : List ℕ} → work′ ≡ zeroed (length t) work → length work′ ≡ length work → Search (digraphOf t row) work′ 0
-  started {work′} cleared long =
-      start (digraphOf t row) work′ (omega (arith, asked .work-enough)) (asked .counts)
-      (λ x h.
-      ap (λ (v : List ℕ). getD v x 0) cleared ∙ cleared-zero work (length t) x h)
+-- after the first clearing
+pub started : {t row work : List ℕ} (before : List ℕ) → Searchable t row → 2 * length t ≤ length before → work ≡ zeroed (length t) before → length work ≡ length before
+    → Search (digraphOf t row) work 0
+started {t} {row} {work} before asked room cleared long =
+    start (digraphOf t row) work (omega arith) (degree-small (asked .readable)) (λ x h. ap (λ (v : List ℕ). getD v x 0) cleared ∙ cleared-zero before (length t) x h)
 
 -- after the last one
 pub searched : {t row u v w x : List ℕ} {answer : Bool} → v ≡ zeroed (length t) u

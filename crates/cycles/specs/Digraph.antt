@@ -6,10 +6,10 @@ use mathlib.Core.List.{List}
 use Prim.Native.Nat.{ℕ, _*_, _≤_, _<_}
 use lib.ListN.{length}
 use Rattle.rows.specs.Placed.{zeroed}
-use Rattle.words.specs.Limits.{mostWords, mostArguments}
 use Rattle.graphs.specs.Graph.{Steps}
 use Rattle.graphs.specs.Partition.{entry}
-use Rattle.table.specs.Table.{degree, childOf, Laid}
+use Rattle.table.specs.Table.{degree, childOf}
+use Rattle.table.specs.Readable.{Readable}
 
 -- A digraph: vertices below `size`; from x lead `count x` edges, the i-th of them, from 0, to `next x i`.
 pub record Digraph : Type 0 where
@@ -31,15 +31,11 @@ abbrev pub Returns : Bool → Digraph → Type 0
 Returns true D = (x : ℕ) × Steps (Edge D) x x
 Returns false D = (x : ℕ) → Steps (Edge D) x x → ⊥
 
--- What the search asks: a table whose blocks and children lie inside it, a class row in which the name of each child's class
--- is the address of a word and its own entry, and two entries of work for each word.
-pub record Searchable (t row : List ℕ) (work-room : ℕ) : Type 0 where
-  pub small : length t ≤ mostWords
-  pub laid : Laid t
-  pub counts : (x : ℕ) → degree t x ≤ mostArguments
+-- What the search asks of table and class row: the table can be read, and in the row the name of each child's class is the
+-- address of a word and its own entry.
+pub record Searchable (t row : List ℕ) : Type 0 where
+  pub readable : Readable t
   pub row-room : length t ≤ length row
-  pub work-enough : 2 * length t ≤ work-room
-  pub child-inside : (x i : ℕ) → i < degree t x → childOf t x i < length t
   pub name-inside : (x i : ℕ) → i < degree t x → entry row (childOf t x i) < length t
   pub name-own : (x i : ℕ) → i < degree t x → entry row (entry row (childOf t x i)) ≡ entry row (childOf t x i)
 

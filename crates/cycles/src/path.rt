@@ -4,8 +4,9 @@ ghost use Prim.Native.Nat.{_+_, _-_, _<_, _≤_};
 ghost use lib.ListN.{length, getD, set};
 ghost use Rattle.words.specs.Limits.{mostWords};
 ghost use Rattle.table.specs.Table.{degree};
-ghost use Rattle.cycles.specs.Digraph.{digraphOf};
-ghost use Rattle.cycles.specs.Steps.Marks.{SearchableRows, Open, Sure, Passed, finishedMark, mark};
+ghost use Rattle.table.specs.Readable.{Readable};
+ghost use Rattle.cycles.specs.Digraph.{digraphOf, Searchable};
+ghost use Rattle.cycles.specs.Steps.Marks.{Open, Sure, Passed, finishedMark, mark};
 use crate::reads;
 
 // The mark of a finished vertex. No vertex on the path has it: there a mark is 1 + the edges passed
@@ -48,7 +49,7 @@ pub fn finish(work: &mut [u16], x: usize)
 
 // Whether there is something to look for from y: it can have edges, and is not finished.
 fn is_open(table: &[u32], work: &[u16], y: usize) -> bool
-    requires { ⌜ (length (now table) ≤ mostWords) × (y < length (now table)) × (length (now table) ≤ length (now work)) ⌝ }
+    requires { ⌜ Readable (now table) × (y < length (now table)) × (length (now table) ≤ length (now work)) ⌝ }
     ensures { λ r. ⌜ Open (degree (now (table .entry)) y) (mark (now (work .entry)) y) r ⌝ }
 {
     if !reads::has_edges(table, y) {
@@ -67,7 +68,7 @@ pub fn pass_over(
     i: usize,
     count: usize,
 ) -> usize
-    requires { ⌜ SearchableRows (now table) (now class) × Sure (digraphOf (now table) (now class)) (now work) × (x < length (now table)) × (count ≡ degree (now table) x) × (i ≤ count) ⌝ }
+    requires { ⌜ Searchable (now table) (now class) × Sure (digraphOf (now table) (now class)) (now work) × (x < length (now table)) × (count ≡ degree (now table) x) × (i ≤ count) ⌝ }
     ensures { λ r. ⌜ Passed (digraphOf (now (table .entry)) (now (class .entry))) (now (work .entry)) x i r ⌝ }
 {
     let mut j = i;

@@ -1,9 +1,9 @@
 // The search from one root, from every name, and the whole.
 ghost use mathlib.Core.Path.{_≡_};
-ghost use Prim.Native.Nat.{_<_};
+ghost use Prim.Native.Nat.{_*_, _<_, _≤_};
 ghost use lib.ListN.{length};
 ghost use Rattle.cycles.specs.Digraph.{digraphOf, Searchable, Searched};
-ghost use Rattle.cycles.specs.Steps.Marks.{SearchableRows, Search, FromRoot, Visited, Told, mark};
+ghost use Rattle.cycles.specs.Steps.Marks.{Search, FromRoot, Visited, Told, mark};
 use crate::path;
 use crate::reads;
 
@@ -13,7 +13,7 @@ use crate::reads;
 // mark of each vertex before x is 1 + the place of the edge that was followed from it. It is where to go
 // on once the search comes back: by then that edge is known to be safe, and is not looked at again.
 fn from_root(table: &[u32], class: &[u16], work: &mut [u16], root: usize) -> bool
-    requires { ⌜ SearchableRows (now table) (now class) × Search (digraphOf (now table) (now class)) (now work) 0 × (root < length (now table)) × (mark (now work) root ≡ 0) ⌝ }
+    requires { ⌜ Searchable (now table) (now class) × Search (digraphOf (now table) (now class)) (now work) 0 × (root < length (now table)) × (mark (now work) root ≡ 0) ⌝ }
     ensures { λ r. ⌜ FromRoot (digraphOf (now (table .entry)) (now (class .entry))) (now (work .entry)) (now (work .exit)) root r ⌝ }
 {
     path::push(work, table.len(), 0, root);
@@ -47,7 +47,7 @@ fn from_root(table: &[u32], class: &[u16], work: &mut [u16], root: usize) -> boo
 // The search from x, if x is a function, is new and is the name of its class. Edges lead to names
 // alone, so no cycle passes through any other vertex.
 fn visit(table: &[u32], class: &[u16], work: &mut [u16], x: usize) -> bool
-    requires { ⌜ SearchableRows (now table) (now class) × Search (digraphOf (now table) (now class)) (now work) 0 × (x < length (now table)) ⌝ }
+    requires { ⌜ Searchable (now table) (now class) × Search (digraphOf (now table) (now class)) (now work) 0 × (x < length (now table)) ⌝ }
     ensures { λ r. ⌜ Visited (digraphOf (now (table .entry)) (now (class .entry))) (now (class .entry)) (now (work .entry)) (now (work .exit)) x r ⌝ }
 {
     if !reads::has_edges(table, x) {
@@ -64,7 +64,7 @@ fn visit(table: &[u32], class: &[u16], work: &mut [u16], x: usize) -> bool
 
 // The search from every name, with all marks at 0.
 fn from_each(table: &[u32], class: &[u16], work: &mut [u16]) -> bool
-    requires { ⌜ SearchableRows (now table) (now class) × Search (digraphOf (now table) (now class)) (now work) 0 ⌝ }
+    requires { ⌜ Searchable (now table) (now class) × Search (digraphOf (now table) (now class)) (now work) 0 ⌝ }
     ensures { λ r. ⌜ Told (digraphOf (now (table .entry)) (now (class .entry))) (now (work .entry)) (now (work .exit)) r ⌝ }
 {
     let mut x = 0;
@@ -83,7 +83,7 @@ fn from_each(table: &[u32], class: &[u16], work: &mut [u16]) -> bool
 // The first 2n entries of work are used, n being the number of words. What they held does not count,
 // and on return they are 0. The entries after them stay.
 pub fn reaches_itself(table: &[u32], class: &[u16], work: &mut [u16]) -> bool
-    requires { ⌜ Searchable (now table) (now class) (length (now work)) ⌝ }
+    requires { ⌜ Searchable (now table) (now class) × (2 * length (now table) ≤ length (now work)) ⌝ }
     ensures { λ r. ⌜ Searched (now (table .entry)) (now (class .entry)) (now (work .entry)) r (now (work .exit)) ⌝ }
 {
     rows::clear16(work, table.len()); // old marks never count; the path is written before it is read

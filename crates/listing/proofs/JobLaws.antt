@@ -105,7 +105,7 @@ unfolding number
 accepted-room {file} {class} {work} {k = k} {answer} m z =
     let job : Job = jobOf (jobAt file k .words) (entriesOf (jobAt file k .pairs)) class work in
     let has : PassedAll job = ready (none-parts (Fault job) (checkOrder ++ listRows) pairRows (passed-none number (Fault job) matchOrder (numberOf answer) (placeOf answer) refl z (m .matched .answered) .0) .0) in
-    (omega (arith, has .small, ap length (m .words)), omega (arith, has .class-enough, ap length (m .words)))
+    (omega (arith, has .passed .readable .small, ap length (m .words)), omega (arith, has .class-enough, ap length (m .words)))
 
 -- ---- the row of the table
 

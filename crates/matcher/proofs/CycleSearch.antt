@@ -6,24 +6,26 @@
 use mathlib.Core.Path.{_≡_, sym, ap, _∙_, subst}
 use mathlib.Core.Bool.{Bool, true, false}
 use mathlib.Core.List.{List}
-use Prim.Native.Nat.{ℕ, _*_, _≤_, _<_}
+use Prim.Native.Nat.{ℕ, _≤_, _<_}
 use native.Mathlib.Omega.{arith}
 use lib.ListN.{length, getD, take}
 use lib.Seq.{getD-take}
-use Rattle.words.specs.Limits.{mostWords}
 use Rattle.graphs.specs.Graph.{symbol, Node, symbol-node, Child, Steps, one, more, WellFormed}
 use Rattle.graphs.specs.Partition.{Pair, Sides, Same, itself, placed, Clash, ClassStep, entry, ClassTable}
 use Rattle.graphs.proofs.Finite.{steps-map}
 use Rattle.graphs.proofs.Classes.{child-at, same-nodes, together-one-entry, entry-together}
 use Rattle.graphs.proofs.Unifiers.{name-symbol}
 use Rattle.table.specs.Table.{graphOf, degree, childOf}
-use Rattle.table.specs.Shaped.{Shaped}
-use Rattle.table.proofs.Children.{kind-node, NamedChild, named-child, degree-child}
-use Rattle.table.proofs.Shape.{shaped-laid, shaped-degree, shaped-child}
+use Rattle.table.specs.Readable.{PassedCheck}
+use Rattle.table.proofs.Children.{NamedChild, named-child, degree-child}
 use Rattle.cycles.specs.Digraph.{Edge, digraphOf, Returns, Searchable}
+use Rattle.classes.proofs.Symbols.{child-node}
 use Rattle.matcher.specs.Steps.PassedAll.{Cycles}
 
-module _ {t : List ℕ} (class : List ℕ) {pairs : List Pair} (shaped : Shaped t) (wf : WellFormed (graphOf t)) (sides : Sides (graphOf t) pairs) (table : ClassTable (graphOf t) pairs (take (length t) class)) (room : length t ≤ length class) where
+module _ {t : List ℕ} (class : List ℕ) {pairs : List Pair} (passed : PassedCheck t) (sides : Sides (graphOf t) pairs) (table : ClassTable (graphOf t) pairs (take (length t) class)) (room : length t ≤ length class) where
+  wf : WellFormed (graphOf t)
+  wf = passed .well-formed
+
   -- ---- entries of the row
 
   row-entry : (x : ℕ) → x < length t → entry class x ≡ entry (take (length t) class) x
@@ -40,22 +42,15 @@ module _ {t : List ℕ} (class : List ℕ) {pairs : List Pair} (shaped : Shaped 
       let n : Node (graphOf t) x × Node (graphOf t) y = same-nodes wf sides s in
       node-entry (n .0) ∙ together-one-entry wf sides table s ∙ sym (node-entry (n .1))
 
-  child-there : (x i : ℕ) → i < degree t x → Node (graphOf t) (childOf t x i)
-  child-there x i h = kind-node t (childOf t x i) (shaped-child shaped x i h)
-
   -- ---- the search's demands
 
-  pub class-searchable : length t ≤ mostWords → (work-room : ℕ) → 2 * length t ≤ work-room → Searchable t class work-room
-  class-searchable small work-room enough =
+  pub class-searchable : Searchable t class
+  class-searchable =
       record {
-        small = small;
-        laid = shaped-laid shaped;
-        counts = shaped-degree shaped;
+        readable = passed .readable;
         row-room = room;
-        work-enough = enough;
-        child-inside = λ x i h. wf .inside (childOf t x i) (child-there x i h);
-        name-inside = λ x i h. wf .inside (entry class (childOf t x i)) (same-nodes wf sides (with-name (child-there x i h)) .1);
-        name-own = λ x i h. sym (one-name (with-name (child-there x i h)));
+        name-inside = λ x i h. wf .inside (entry class (childOf t x i)) (same-nodes wf sides (with-name (child-node t wf x i h)) .1);
+        name-own = λ x i h. sym (one-name (with-name (child-node t wf x i h)));
       }
 
   -- ---- edges and steps
@@ -68,7 +63,7 @@ module _ {t : List ℕ} (class : List ℕ) {pairs : List Pair} (shaped : Shaped 
         child = childOf t x i;
         from = itself (symbol-node (down .1 .stands));
         down = down;
-        into = subst (Same (graphOf t) pairs (childOf t x i)) e (with-name (child-there x i h));
+        into = subst (Same (graphOf t) pairs (childOf t x i)) e (with-name (child-node t wf x i h));
       }
 
   child-edge : {x y : ℕ} → Child (graphOf t) x y → Edge (digraphOf t class) x (entry class y)

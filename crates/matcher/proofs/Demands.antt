@@ -80,6 +80,9 @@ module _ {t list class work : List ℕ} {r : Matched} {class-after work-after : 
   has : PassedAll (jobOf t list class work)
   has = ready passes
 
+  formed : WellFormed (graphOf t)
+  formed = has .passed .well-formed
+
   sides-so-far : (k : ℕ) → Sides (graphOf t) (take k (pairsOf list))
   sides-so-far k p q = has .sides p (list-so-far passes k p q)
 
@@ -115,7 +118,7 @@ module _ {t list class work : List ℕ} {r : Matched} {class-after work-after : 
   -- If the answer is 0, no part of the list has a clash or a cycle.
   faultless-so-far : numberOf r ≡ 0 → (k : ℕ) → k ≤ length (pairsOf list) → (Clash (graphOf t) (take k (pairsOf list)) → ⊥) × (Cycle (graphOf t) (take k (pairsOf list)) → ⊥)
   unfolding number
-  faultless-so-far z zero h = (no-pairs-no-clash (has .well-formed), no-pairs-no-cycle (has .well-formed))
+  faultless-so-far z zero h = (no-pairs-no-clash formed, no-pairs-no-cycle formed)
   faultless-so-far z (suc k) h =
       subst (λ (n : ℕ). (Clash (graphOf t) (take n (pairsOf list)) → ⊥) × (Cycle (graphOf t) (take n (pairsOf list)) → ⊥)) (let e : k + 1 ≡ suc k = omega arith in e)
       (one-more (faultless-so-far z k (omega arith)))
@@ -140,13 +143,13 @@ module _ {t list class work : List ℕ} {r : Matched} {class-after work-after : 
 
   -- If the answer is 0, the answer as a replacement makes both sides of every pair equal.
   pub answer-makes-equal : numberOf r ≡ 0 → Unifies (graphOf t) (pairsOf list) (answer (graphOf t) (take (length t) class-after))
-  answer-makes-equal z = answer-unifies (has .well-formed) (has .sides) (accepted-class-table z) (faultless z .0) (faultless z .1)
+  answer-makes-equal z = answer-unifies formed (has .sides) (accepted-class-table z) (faultless z .0) (faultless z .1)
 
   -- The answer is 0 exactly where some replacement makes both sides of every pair equal.
   pub accepted-exactly : (numberOf r ≡ 0) ↔ Met (graphOf t) (pairsOf list)
   accepted-exactly = (
     λ z. (answer (graphOf t) (take (length t) class-after), answer-makes-equal z),
-    λ met. answered-as 0 0 (accepted-answered passes (unifier-no-clash (has .well-formed) (met .0) (met .1)) (unifier-no-cycle (has .well-formed) (met .0) (met .1))) .0,
+    λ met. answered-as 0 0 (accepted-answered passes (unifier-no-clash formed (met .0) (met .1)) (unifier-no-cycle formed (met .0) (met .1))) .0,
   )
 
   -- The terms of the answer have as many arguments as their symbols count, so it makes no difference whether a replacement by
@@ -166,12 +169,12 @@ module _ {t list class work : List ℕ} {r : Matched} {class-after work-after : 
   -- the same term as that one alone.
   pub answer-most-general-of-list : numberOf r ≡ 0 → (θ : Replacement TableSymbols) → Unifies (graphOf t) (pairsOf list) θ
       → (x : ℕ) → graphOf t .head x ≡ variable → (answer (graphOf t) (take (length t) class-after) then θ) x ≡ θ x
-  answer-most-general-of-list z = answer-most-general (has .well-formed) (has .sides) (accepted-class-table z) (faultless z .0) (faultless z .1)
+  answer-most-general-of-list z = answer-most-general formed (has .sides) (accepted-class-table z) (faultless z .0) (faultless z .1)
 
   -- A variable in a class of variables only goes to the variable that names it; any other goes to the term below its class's
   -- name, with each variable in that term replaced by its own answer.
   pub answer-rule : numberOf r ≡ 0 → FollowsRule (graphOf t) (pairsOf list) (take (length t) class-after) (answer (graphOf t) (take (length t) class-after))
-  answer-rule z = answer-follows-rule (has .well-formed) (has .sides) (accepted-class-table z) (faultless z .0) (faultless z .1)
+  answer-rule z = answer-follows-rule formed (has .sides) (accepted-class-table z) (faultless z .0) (faultless z .1)
 
   -- No other replacement follows that rule, on the variables of the table.
   pub answer-rule-only : numberOf r ≡ 0 → (σ : Replacement TableSymbols) → FollowsRule (graphOf t) (pairsOf list) (take (length t) class-after) σ
@@ -207,7 +210,7 @@ module _ {t list class work : List ℕ} {r : Matched} {class-after work-after : 
         unmet = subst (λ (n : ℕ). Met (graphOf t) (take n (pairsOf list)) → ⊥) (sym e) unmet;
         met-before =
             subst (λ (n : ℕ). Met (graphOf t) (take n (pairsOf list))) (let q : i ≡ k - 1 = omega arith in q)
-            (faultless-met (graphOf t) (has .well-formed) (sides-so-far i) no-clash no-cycle);
+            (faultless-met (graphOf t) formed (sides-so-far i) no-clash no-cycle);
       }
 
   -- A refusal stands at the first pair where the list so far cannot be met.
@@ -215,11 +218,11 @@ module _ {t list class work : List ℕ} {r : Matched} {class-after work-after : 
   refused-unmet (inl e) =
       let shown : (i : ℕ) × (placeOf r ≡ i + 1) × FirstClash (graphOf t) (pairsOf list) i = clash-told (numberOf r) (placeOf r) e by-pairs in
       let f : FirstClash (graphOf t) (pairsOf list) (shown .0) = shown .2 in
-      unmet-at (shown .0) (shown .1) (f .within) (λ met. unifier-no-clash (has .well-formed) (met .0) (met .1) (f .clash)) (f .no-clash-before) (f .no-cycle-before)
+      unmet-at (shown .0) (shown .1) (f .within) (λ met. unifier-no-clash formed (met .0) (met .1) (f .clash)) (f .no-clash-before) (f .no-cycle-before)
   refused-unmet (inr e) =
       let shown : (i : ℕ) × (placeOf r ≡ i + 1) × FirstCycle (graphOf t) (pairsOf list) i = cycle-told (numberOf r) (placeOf r) e by-pairs in
       let f : FirstCycle (graphOf t) (pairsOf list) (shown .0) = shown .2 in
-      unmet-at (shown .0) (shown .1) (f .within) (λ met. unifier-no-cycle (has .well-formed) (met .0) (met .1) (f .cycle))
+      unmet-at (shown .0) (shown .1) (f .within) (λ met. unifier-no-cycle formed (met .0) (met .1) (f .cycle))
       (f .no-clash-before)
       (f .no-cycle-before)
 

@@ -37,12 +37,9 @@ standing-after {t} {list} {class} {work} s l =
     record {
       ready =
           record {
-            some-word = s .ready .some-word;
-            small = s .ready .small;
+            passed = s .ready .passed;
             class-enough = omega (arith, s .ready .class-enough, l .class-long);
             work-enough = omega (arith, s .ready .work-enough, ap length (l .work-same));
-            shaped = s .ready .shaped;
-            well-formed = s .ready .well-formed;
             even = s .ready .even;
             few = s .ready .few;
             sides = s .ready .sides;
@@ -65,14 +62,12 @@ module _ {t list class work class-apart : List ℕ} {k : ℕ} (s : Standing t li
   pub first-joinable : Joinable t [] (take (2 * k) list) class-apart (length work)
   first-joinable =
       record {
-        small = s .ready .small;
-        shaped = s .ready .shaped;
-        well-formed = s .ready .well-formed;
+        passed = s .ready .passed;
         class-room = omega (arith, s .ready .class-enough, long);
         work-enough = omega (arith, s .ready .work-enough);
         earlier-sides = λ p m. absurd (List·Memᴰ·not-nil m);
-        class-table = apart-front t class-apart (drop (length t) class) (s .ready .well-formed) apart-row;
-        no-clash = no-pairs-no-clash (s .ready .well-formed);
+        class-table = apart-front t class-apart (drop (length t) class) (s .ready .passed .well-formed) apart-row;
+        no-clash = no-pairs-no-clash (s .ready .passed .well-formed);
         sides = subst (Sides (graphOf t)) (sym (pairsOf-take list k)) (first-sides (s .ready .sides) k inside);
         numbered = omega (arith, s .ready .few, first-no-longer (2 * k) list);
       }

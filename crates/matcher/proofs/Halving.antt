@@ -5,7 +5,7 @@
 use mathlib.Core.Path.{_≡_, refl, sym, ap, _∙_, subst}
 use mathlib.Core.Bool.{Bool, true, false, _&&_}
 use mathlib.Core.List.{List, _++_}
-use Prim.Native.Nat.{ℕ, zero, suc, _+_, _-_, _≤_, _<_}
+use Prim.Native.Nat.{ℕ, zero, suc, _+_, _-_, _*_, _≤_, _<_}
 use native.Mathlib.Omega.{arith}
 use lib.Dec.{eqb}
 use lib.ListN.{length, take, drop, replicate, take-append-drop}
@@ -35,19 +35,21 @@ use Rattle.matcher.proofs.FirstPairs.{lent-join, lent-none, standing-af
 -- ---- a search of the row
 
 module _ {t list class work : List ℕ} {k : ℕ} (s : Standing t list class work) (inside : k ≤ length (pairsOf list)) (p : Partitioned t list class k) where
-  pub row-searchable : Searchable t class (length work)
-  row-searchable =
-      class-searchable class (s .ready .shaped) (s .ready .well-formed) (first-sides (s .ready .sides) k inside) (p .class-table) (s .ready .class-enough)
-      (s .ready .small) (length work) (omega (arith, s .ready .work-enough))
+  -- what the search asks
+  pub row-searchable : Searchable t class × (2 * length t ≤ length work)
+  row-searchable = (
+    class-searchable class (s .ready .passed) (first-sides (s .ready .sides) k inside) (p .class-table) (s .ready .class-enough),
+    omega (arith, s .ready .work-enough),
+  )
 
   -- so the joins can be counted by the row alone
   pub row-names-nodes : NamesNodes (graphOf t) class
-  row-names-nodes = front-names-nodes t class (s .ready .well-formed) (first-sides (s .ready .sides) k inside) (p .class-table)
+  row-names-nodes = front-names-nodes t class (s .ready .passed .well-formed) (first-sides (s .ready .sides) k inside) (p .class-table)
 
   module _ {found : Bool} {work-after : List ℕ} (searched : Searched t class work found work-after) where
     pub row-tells : Cycles found (graphOf t) (take k (pairsOf list))
     row-tells =
-        search-tells class (s .ready .shaped) (s .ready .well-formed) (first-sides (s .ready .sides) k inside) (p .class-table) (s .ready .class-enough)
+        search-tells class (s .ready .passed) (first-sides (s .ready .sides) k inside) (p .class-table) (s .ready .class-enough)
         (p .no-clash) found (searched .truth)
 
     pub row-lent : OnlyClassFront t class work class work-after
@@ -75,9 +77,9 @@ pub record Halved (t list class₀ work₀ : List ℕ) (all : ℕ) (class work :
   pub cycle : Cycle (graphOf t) (take many (pairsOf list))
 
 pub halved-start : {t list class work : List ℕ} (many : ℕ) → Standing t list class work → Cycle (graphOf t) (take many (pairsOf list)) → Halved t list class work many class work 0 many
-halved-start {t} {list} zero s c = absurd (no-pairs-no-cycle (s .ready .well-formed) c)
+halved-start {t} {list} zero s c = absurd (no-pairs-no-cycle (s .ready .passed .well-formed) c)
 halved-start {t} {list} (suc many) s c =
-    record { lent = lent-none; apart = omega arith; within = omega arith; none-yet = no-pairs-no-cycle (s .ready .well-formed); cycle = c }
+    record { lent = lent-none; apart = omega arith; within = omega arith; none-yet = no-pairs-no-cycle (s .ready .passed .well-formed); cycle = c }
 
 module _ {t list class₀ work₀ class work class-after work-after : List ℕ} {all few many middle : ℕ} {found : Bool} (h : Halved t list class₀ work₀ all class work few many)
     (tells : TellsCycle t list class work middle found class-after work-after) (below : few < middle) (above : middle < many) where

@@ -7,7 +7,7 @@ use mathlib.Core.Path.{_≡_, refl, subst}
 use mathlib.Core.Bool.{Bool, true, false, not, _&&_}
 use mathlib.Core.Logic.{_⊎_, inl, inr, ⊎-elim}
 use mathlib.Core.List.{List, [], _∷_, _++_}
-use Prim.Native.Nat.{ℕ, _+_, _≤_, _<_}
+use Prim.Native.Nat.{ℕ, _+_, _*_, _≤_, _<_}
 use native.Mathlib.Decide.{decLt}
 use native.Mathlib.Omega.{arith}
 use lib.ListN.{length, take}
@@ -23,10 +23,10 @@ use Rattle.graphs.specs.Partition.{Pair, pairsOf, _∈_, Sides, Clash, Cycle}
 use Rattle.graphs.proofs.Classes.{never}
 use Rattle.graphs.proofs.Theorems.{first-pairs-grow, clash-grows, cycle-grows}
 use Rattle.table.specs.Table.{kindAt, nodeKind, graphOf}
-use Rattle.table.specs.Faults.{Job, odd, badSides, pairAt, LIST, ADDRESS, CLASH, CYCLE, number, Fault, size-fault, room-fault, list-fault, address-fault, clash-fault, cycle-fault, sizeRows, shapeRows, tableRows, listRows, pairRows, NAME, LOOP, checkOrder, matchOrder}
+use Rattle.table.specs.Faults.{Job, odd, badSides, pairAt, LIST, ADDRESS, CLASH, CYCLE, number, Fault, room-fault, list-fault, address-fault, clash-fault, cycle-fault, sizeRows, tableRows, listRows, pairRows, checkOrder, matchOrder}
 use Rattle.table.proofs.Pairs.{pair-place}
 use Rattle.table.proofs.Children.{kind-node}
-use Rattle.table.proofs.WellFormed.{no-fault-shaped, no-fault-well-formed}
+use Rattle.table.proofs.PassedCheck.{passed-check}
 use Rattle.table.proofs.OneAnswer.{check-off-list}
 use Rattle.checker.specs.declared.answer.Checked.{Checked}
 use Rattle.checker.specs.Check.{CheckOf}
@@ -88,24 +88,17 @@ both-kinds true false e = never (cc)
 both-kinds false b e = never (cc)
 
 pub at-most : {a b : ℕ} → (b < a → ⊥) → a ≤ b
-at-most {a} {b} none = go (decLt b a)
-  where
-    go : Dec (b < a) → a ≤ b
-    go (yes h) = absurd (none h)
-    go (no h) = omega arith
+at-most none = omega arith
 
 module _ {job : Job} (passes : Passes job) where
-  of-size : NoneOf (Fault job) sizeRows
-  of-size = none-parts (Fault job) sizeRows (tableRows ++ listRows) passes .0
-
-  of-table : NoneOf (Fault job) tableRows
-  of-table = none-parts (Fault job) tableRows listRows (none-parts (Fault job) sizeRows (tableRows ++ listRows) passes .1) .0
+  of-check : NoneOf (Fault job) checkOrder
+  of-check = none-parts (Fault job) checkOrder listRows passes .0
 
   of-list : NoneOf (Fault job) listRows
   of-list = none-parts (Fault job) checkOrder listRows passes .1
 
-  some-word-there : 0 < length (job .table)
-  some-word-there = let one : 1 ≤ length (job .table) = at-most (λ h. of-size .0 0 (size-fault (inl (omega arith)))) in omega arith
+  enough : (job .class-room < length (job .table)) ⊎ (job .work-room < 4 * length (job .table)) → ⊥
+  enough short = none-parts (Fault job) sizeRows tableRows of-check .0 .1 .0 0 (room-fault short)
 
   even-there : odd (job .list) ≡ false
   even-there = go (odd (job .list)) refl
@@ -132,12 +125,9 @@ module _ {job : Job} (passes : Passes job) where
   pub ready : PassedAll job
   ready =
       record {
-        some-word = some-word-there;
-        small = at-most (λ h. of-size .0 0 (size-fault (inr h)));
-        class-enough = at-most (λ h. of-size .1 .0 0 (room-fault (inl h)));
-        work-enough = at-most (λ h. of-size .1 .0 0 (room-fault (inr h)));
-        shaped = no-fault-shaped job some-word-there (none-parts (Fault job) shapeRows (NAME ∷ LOOP ∷ []) of-table .0);
-        well-formed = no-fault-well-formed job some-word-there of-table;
+        passed = passed-check job of-check;
+        class-enough = at-most (λ h. enough (inl h));
+        work-enough = at-most (λ h. enough (inr h));
         even = even-there;
         few = at-most (λ h. of-list .0 0 (list-fault (inr h)));
         sides = sides-there;

@@ -25,10 +25,10 @@ use Rattle.graphs.proofs.Theorems.{log-class-table, log-no-clash, log-no-cycle,
 use Rattle.table.specs.Table.{kindAt, contentAt, nodeKind, graphOf}
 use Rattle.table.specs.Layout.{item, breakFrom}
 use Rattle.table.specs.Faults.{Job, badWord, badPointer, Repeats, odd, badSides, pairAt, Row, SIZE, ROOM, NAME, LOOP, LIST, ADDRESS, number, Fault, size-fault, room-fault, name-fault, loop-fault, list-fault, address-fault, sizeRows, shapeRows, listRows, pairRows, matchOrder}
-use Rattle.table.specs.Shaped.{Shaped}
+use Rattle.table.specs.Readable.{Readable}
 use Rattle.table.proofs.Children.{node-kind}
-use Rattle.table.proofs.Shape.{inside-kind}
-use Rattle.checker.proofs.Stages.{shaped-none}
+use Rattle.table.proofs.Readable.{inside-kind}
+use Rattle.checker.proofs.Stages.{readable-none}
 use Rattle.matcher.specs.Match.{Passes}
 use Rattle.matcher.proofs.Verdicts.{ready, list-so-far, accepted-answered, clash-answered, cycle-answered}
 use Rattle.sheet.specs.Sheet.{Example, jobWith, RowHolds}
@@ -63,8 +63,7 @@ ends-in (ends row) test e = (row, refl, e)
 
 -- what a table has that passes its test
 record Sent (t : List ℕ) : Type 0 where
-  pub shaped : Shaped t
-  pub small : length t ≤ mostWords
+  pub readable : Readable t
   pub names : (a : ℕ) → Repeats t a → ⊥
 
 repeats-shown : (t : List ℕ) (a : ℕ) (r : Repeats t a) → repeatsAt t a (r .earlier) ≡ true
@@ -83,14 +82,14 @@ good-sent t e =
     let pointers : allBelow (λ a. not (badPointer t a)) (length t) ≡ true = both-true (both-true (both-true (both-true e .1) .1) .1) .0 in
     let names : allBelow (λ a. allBelow (λ b. not (repeatsAt t a b)) a) (length t) ≡ true = both-true (both-true (both-true (both-true e .1) .1) .1) .1 in
     record {
-      shaped =
+      readable =
           record {
             some-word = ltb-true 0 (length t) (both-true size .0);
+            small = leb-true (length t) mostWords (both-true size .1);
             words = λ a h. fails (all-below (λ b. not (badWord t b)) (length t) words a h);
             whole = is-none (breakFrom item 1 (drop 1 t)) whole;
             pointers = λ a h. fails (all-below (λ b. not (badPointer t b)) (length t) pointers a h);
           };
-      small = leb-true (length t) mostWords (both-true size .1);
       names = λ a r.
           fails
           (all-below (λ b. not (repeatsAt t a b)) a
@@ -117,10 +116,10 @@ beforeLoop = sizeRows ++ shapeRows ++ (NAME ∷ [])
 module _ (e : Example) (class-room work-room : ℕ) (class-enough : length (e .table) ≤ class-room) (work-enough : 4 * length (e .table) ≤ work-room) (good : Sent (e .table)) where
   -- none of the rows 1 to 6 applies ..
   clear : NoneOf (Fault (jobWith e class-room work-room)) beforeLoop
-  clear = none-both (Fault (jobWith e class-room work-room)) (sizeRows ++ shapeRows) (NAME ∷ []) (none-both (Fault (jobWith e class-room work-room)) sizeRows shapeRows (size, (room, tt)) (shaped-none (good .shaped))) (name, tt)
+  clear = none-both (Fault (jobWith e class-room work-room)) (sizeRows ++ shapeRows) (NAME ∷ []) (none-both (Fault (jobWith e class-room work-room)) sizeRows shapeRows (size, (room, tt)) (readable-none (good .readable))) (name, tt)
     where
       size : (p : ℕ) → Fault (jobWith e class-room work-room) SIZE p → ⊥
-      size p (size-fault x) = ⊎-elim (λ z. omega (arith, good .shaped .some-word)) (λ z. omega (arith, good .small)) x
+      size p (size-fault x) = ⊎-elim (λ z. omega (arith, good .readable .some-word)) (λ z. omega (arith, good .readable .small)) x
 
       room : (p : ℕ) → Fault (jobWith e class-room work-room) ROOM p → ⊥
       room p (room-fault x) = ⊎-elim (λ z. omega arith) (λ z. omega arith) x
@@ -200,7 +199,7 @@ module _ (e : Example) (sent : Sent (e .table)) (list : goodList (e .table) (e .
   least = all-clear (length (e .table)) (4 * length (e .table)) (omega arith) (omega arith)
 
   formed : WellFormed (graphIn e)
-  formed = ready least .well-formed
+  formed = ready least .passed .well-formed
 
   sides : Sides (graphIn e) (pairsIn e)
   sides = ready least .sides

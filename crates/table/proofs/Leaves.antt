@@ -2,8 +2,7 @@
 use mathlib.Core.Path.{_≡_, sym, ap, _∙_}
 use mathlib.Core.Bool.{Bool}
 use mathlib.Core.List.{List}
-use Prim.Native.Nat.{ℕ, _+_, _≤_, _<_}
-use native.Mathlib.Omega.{arith}
+use Prim.Native.Nat.{ℕ, _≤_}
 use lib.ListN.{length, List·getD-eq-default}
 use Rattle.words.specs.Word.{sameKind, kindOf}
 use Rattle.words.specs.declared.kind.Kind.{Kind}
@@ -11,17 +10,12 @@ use Rattle.words.specs.declared.kind.Kind.the-variants.{NoWord}
 use Rattle.words.specs.declared.numbers.Label.{Label}
 use Rattle.words.proofs.WordLaws.{same-kind-exactly}
 use Rattle.words.proofs.KindLaws.{other-kind}
-use Rattle.table.specs.Table.{choose, kindAt, degree, Laid}
-use Rattle.table.proofs.Children.{degree-function}
+use Rattle.table.specs.Table.{choose, kindAt}
 
 -- past the end stands no word
 pub past-end : (t : List ℕ) (a : ℕ) → length t ≤ a → kindAt t a ≡ NoWord
 unfolding kindOf
 past-end t a h = ap kindOf (List·getD-eq-default t 0 h)
-
--- a function that has a child at place i has its argument word there
-pub degree-inside : (t : List ℕ) → Laid t → (x i : ℕ) → i < degree t x → x + 2 + i < length t
-degree-inside t laid x i h = let f = degree-function t x i h in omega (arith, laid x (f .0), f .1)
 
 -- what is chosen by the kind that was read: the kind that was asked for, or another
 pub picked : {A : Type 0} {read k j : Kind} {x r : A} (y : A) → read ≡ k → read ≡ j → r ≡ x → r ≡ choose (sameKind k j) x y

@@ -1,9 +1,10 @@
--- Laws of a table: what the leaves read, the pairs of a list, its layout, its shape, its graph, and that the rows allow one answer.
+-- Laws of a table: what the leaves read, the pairs of a list, its layout, what holds of one that can be read, its graph, and that
+-- the rows allow one answer.
 pub mod Leaves
 pub mod Pairs
 pub mod Blocks
 pub mod RowOfItems
 pub mod Children
-pub mod Shape
-pub mod WellFormed
+pub mod Readable
+pub mod PassedCheck
 pub mod OneAnswer

@@ -1,6 +1,6 @@
--- What a reader must believe: the table and its graph, the row of items, and document 01's table of numbers.
+-- What a reader must believe: the table and its graph, the row of items, document 01's table of numbers, and what a check gives.
 pub mod Table
 pub mod Heads
 pub mod Layout
 pub mod Faults
-pub mod Shaped
+pub mod Readable

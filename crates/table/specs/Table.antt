@@ -2,7 +2,7 @@
 use mathlib.Core.Path.{_≡_, ap}
 use mathlib.Core.Bool.{Bool, true, false}
 use mathlib.Core.List.{List, [], _∷_}
-use Prim.Native.Nat.{ℕ, zero, suc, _+_, _<_}
+use Prim.Native.Nat.{ℕ, zero, suc, _+_}
 use native.Mathlib.Decide.{ℕ-discrete}
 use lib.ListN.{length, getD}
 use Rattle.words.specs.Head.{symbolWith}
@@ -89,7 +89,3 @@ degree t x = choose (sameKind (kindAt t x) Function) (contentAt t (x + 1)) 0
 -- the child of a function at place i, from 0
 abbrev pub childOf : List ℕ → ℕ → ℕ → ℕ
 childOf t x i = named t (x + 2 + i)
-
--- Every block ends inside the table: what a layout that does not break gives (`shaped-laid`, proofs/Shape.antt).
-abbrev pub Laid : List ℕ → Type 0
-Laid t = (x : ℕ) → kindAt t x ≡ Function → x + 1 + contentAt t (x + 1) < length t

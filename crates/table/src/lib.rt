@@ -2,8 +2,7 @@
 // word at an address, is a node, whether it is a function, what stands at it, and which nodes are its
 // children.
 //
-// Those that go into a block require that each block ends inside the table, as it does in a checked
-// one.
+// Those that go into a block ask for a table that can be read, as a checked one can.
 pub mod node;
 
 pub use node::child;

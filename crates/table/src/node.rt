@@ -1,12 +1,12 @@
 // What a node of the table is, by its address.
 ghost use mathlib.Core.Path.{_≡_};
-ghost use Prim.Native.Nat.{_+_, _<_, _≤_};
+ghost use Prim.Native.Nat.{_+_, _<_};
 ghost use lib.ListN.{length};
-ghost use Rattle.words.specs.Limits.{mostWords};
 ghost use Rattle.words.specs.Word.{kindOf, sameKind};
 ghost use Rattle.words.specs.declared.kind.Kind.{Kind};
 ghost use Rattle.table.specs.Heads.{top};
-ghost use Rattle.table.specs.Table.{kindAt, nodeKind, named, degree as degreeAt, childOf, Laid};
+ghost use Rattle.table.specs.Table.{kindAt, nodeKind, named, degree as degreeAt, childOf};
+ghost use Rattle.table.specs.Readable.{Readable};
 use words::head::Head;
 use words::kind;
 use words::kind::Kind;
@@ -45,7 +45,7 @@ pub fn is_function(table: &[u32], x: Address) -> bool
 
 // How many children the node at an address has.
 pub fn degree(table: &[u32], x: Address) -> u16
-    requires { ⌜ Laid (now table) × (x .0 < length (now table)) ⌝ }
+    requires { ⌜ Readable (now table) × (x .0 < length (now table)) ⌝ }
     ensures { λ r. ⌜ r ≡ degreeAt (now (table .entry)) (x .0) ⌝ }
 {
     let at = x.0 as usize;
@@ -71,7 +71,7 @@ fn named_at(table: &[u32], at: u16) -> Address
 
 // The child at place i, from 0, of the function at an address.
 pub fn child(table: &[u32], x: Address, i: u16) -> Address
-    requires { ⌜ Laid (now table) × (length (now table) ≤ mostWords) × (i < degreeAt (now table) (x .0)) ⌝ }
+    requires { ⌜ Readable (now table) × (i < degreeAt (now table) (x .0)) ⌝ }
     ensures { λ r. ⌜ r .0 ≡ childOf (now (table .entry)) (x .0) i ⌝ }
 {
     let first = x.0 + 2;
@@ -80,7 +80,7 @@ pub fn child(table: &[u32], x: Address, i: u16) -> Address
 
 // What stands at the address of a node, at its top.
 pub fn head(table: &[u32], x: Address) -> Head
-    requires { ⌜ Laid (now table) × (x .0 < length (now table)) ⌝ }
+    requires { ⌜ Readable (now table) × (x .0 < length (now table)) ⌝ }
     ensures { λ r. ⌜ r ≡ top (now (table .entry)) (x .0) ⌝ }
 {
     let at = x.0 as usize;

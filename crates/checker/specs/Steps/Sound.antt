@@ -9,7 +9,7 @@ use Rattle.words.specs.declared.kind.Kind.the-variants.{Count}
 use Rattle.table.specs.Table.{kindAt}
 use Rattle.table.specs.Layout.{Wanted, item, more, breakFrom}
 use Rattle.table.specs.Faults.{badKind, badWord, badPointer, Repeats}
-use Rattle.table.specs.Shaped.{Shaped}
+use Rattle.table.specs.Readable.{Readable}
 use Rattle.checker.specs.Steps.Names.{RestStays, Chained}
 
 -- a count word whose content is allowed
@@ -50,4 +50,4 @@ pub record NextItem (t entry exit : List ℕ) (here : Wanted) (a next : ℕ) : T
 -- The table was walked along. If it is sound, then none of the rows from 3 to 6 applies.
 pub record SoundTable (t entry exit : List ℕ) (sound : Bool) : Type 0 where
   pub stays : RestStays t entry exit
-  pub shows : sound ≡ true → Shaped t × ((a : ℕ) → Repeats t a → ⊥)
+  pub shows : sound ≡ true → Readable t × ((a : ℕ) → Repeats t a → ⊥)

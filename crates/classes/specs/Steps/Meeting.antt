@@ -5,19 +5,11 @@ use mathlib.Core.Bool.{Bool, true, false}
 use mathlib.Core.List.{List, [], _∷_, _++_}
 use Prim.Native.Nat.{ℕ, zero, suc, _+_, _*_, _≤_, _<_}
 use lib.ListN.{length, getD, drop}
-use Rattle.words.specs.Limits.{mostWords}
-use Rattle.graphs.specs.Graph.{nothing, symbol, Node, WellFormed}
+use Rattle.graphs.specs.Graph.{nothing, symbol, Node}
 use Rattle.graphs.specs.Partition.{Pair, _∈_, Same, Clash, entry, classes, key}
 use Rattle.table.specs.Table.{TableSymbols, graphOf, degree, childOf}
-use Rattle.table.specs.Shaped.{Shaped}
 use Rattle.classes.specs.Steps.Forest.{Forest}
 use Rattle.classes.specs.declared.meet.Turn.{Turn}
-
--- What the steps ask of the table: it passed its check.
-pub record PassedCheck (t : List ℕ) : Type 0 where
-  pub small : length t ≤ mostWords
-  pub shaped : Shaped t
-  pub well-formed : WellFormed (graphOf t)
 
 -- the two functions of a waiting pair
 abbrev pub waitingLeft : List ℕ → ℕ → ℕ

@@ -10,11 +10,7 @@ use Prim.Native.Nat.{ℕ, zero, suc, _+_, _-_, _*_, _≤_, _<_}
 use lib.ListN.{length, getD, drop}
 use Rattle.words.specs.Limits.{mostArguments}
 use Rattle.graphs.specs.Partition.{entry}
-use Rattle.cycles.specs.Digraph.{Digraph, Edge, Returns, Searchable}
-
--- What the steps ask of table and class row. Of the work row `Search` says enough.
-abbrev pub SearchableRows : List ℕ → List ℕ → Type 0
-SearchableRows t row = Searchable t row (2 * length t)
+use Rattle.cycles.specs.Digraph.{Digraph, Edge, Returns}
 
 -- the mark of x
 abbrev pub mark : List ℕ → ℕ → ℕ

@@ -5,12 +5,12 @@ use mathlib.Core.Logic.{_⊎_}
 use mathlib.Core.List.{List}
 use Prim.Native.Nat.{ℕ, _*_, _≤_, _<_}
 use lib.ListN.{length}
-use Rattle.words.specs.Limits.{mostWords, mostEntries}
-use Rattle.graphs.specs.Graph.{Symbols, Graph, WellFormed}
+use Rattle.words.specs.Limits.{mostEntries}
+use Rattle.graphs.specs.Graph.{Symbols, Graph}
 use Rattle.graphs.specs.Partition.{Pair, pairsOf, Sides, Cycle}
 use Rattle.table.specs.Table.{graphOf}
 use Rattle.table.specs.Faults.{Job, odd}
-use Rattle.table.specs.Shaped.{Shaped}
+use Rattle.table.specs.Readable.{PassedCheck}
 
 -- "odd number of entries, or over 512", or neither
 abbrev pub BadList : Bool → List ℕ → Type 0
@@ -24,12 +24,9 @@ Cycles false G pairs = Cycle G pairs → ⊥
 
 -- What a job has that passes all checks.
 pub record PassedAll (job : Job) : Type 0 where
-  pub some-word : 0 < length (job .table)
-  pub small : length (job .table) ≤ mostWords
+  pub passed : PassedCheck (job .table)
   pub class-enough : length (job .table) ≤ job .class-room
   pub work-enough : 4 * length (job .table) ≤ job .work-room
-  pub shaped : Shaped (job .table)
-  pub well-formed : WellFormed (graphOf (job .table))
   pub even : odd (job .list) ≡ false
   pub few : length (job .list) ≤ mostEntries
   pub sides : Sides (graphOf (job .table)) (pairsOf (job .list))

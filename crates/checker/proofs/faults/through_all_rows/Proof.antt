@@ -3,10 +3,9 @@
 use mathlib.Core.Path.{subst}
 use borrow.Author.Needs.{needs}
 use Rattle.table.specs.Faults.{shapeRows}
-use Rattle.table.proofs.Shape.{word-0}
 use Rattle.checker.specs.declared.answer.Checked.the-variants.{Accepted}
 use Rattle.checker.specs.Steps.Stage.{ByRows}
-use Rattle.checker.proofs.CheckLaws.{accepted-shaped, shape-refused, shape-passed, name-stage, none-repeats, names-passed, lent-later}
+use Rattle.checker.proofs.CheckLaws.{accepted-readable, shape-refused, shape-passed, name-stage, none-repeats, names-passed, lent-later}
 use Rattle.checker.proofs.faults.through_all_rows.Statement.{statement}
 use Rattle.checker.proofs.faults.through_all_rows.Tie as tie
 
@@ -35,7 +34,7 @@ first-repeated-name-requires : tie.Need-first-repeated-name-requires
 first-repeated-name-requires c κs =
     let p : tie.Start = search needs in
     let e : tie.After-enum-told = search needs in
-    (p .pre .some-word, p .pre .small, p .pre .work-enough, word-0 (accepted-shaped (passed e) (p .pre .some-word)))
+    (accepted-readable (passed e) (p .pre), p .pre .work-enough)
 
 cast-t11 : tie.Need-cast-t11
 cast-t11 c = search needs
@@ -53,7 +52,7 @@ loops-alone-requires : tie.Need-loops-alone-requires
 loops-alone-requires c κs =
     let p : tie.Start = search needs in
     let e : tie.After-enum-told = search needs in
-    (search needs, accepted-shaped (passed e) (p .pre .some-word))
+    (search needs, accepted-readable (passed e) (p .pre))
 
 same-length-2 : tie.Need-same-length-2
 same-length-2 c = search needs

@@ -14,8 +14,7 @@ reaches-itself-requires : tie.Need-reaches-itself-requires
 reaches-itself-requires c κs =
     let p : tie.Start = search needs in
     let own : tie.After-own-classes = search needs in
-    own-searchable (p .args .table .now) (own .own-classes .last .0) (drop (length (p .args .table .now)) (p .args .class .now)) (own .own-classes .ensures) (p .pre .1)
-    _ (p .pre .0 .small) (omega (arith, p .pre .0 .work-enough))
+    (own-searchable (p .args .table .now) (own .own-classes .last .0) (drop (length (p .args .table .now)) (p .args .class .now)) (own .own-classes .ensures) (p .pre .1), omega (arith, p .pre .0 .work-enough))
 
 same-length : tie.Need-same-length
 same-length c = search needs
@@ -28,7 +27,7 @@ returns c =
     let p : tie.Start = search needs in
     let own : tie.After-own-classes = search needs in
     let found : tie.After-reaches-itself = search needs in
-    loop-stage (loop-search (p .pre .0) (p .pre .1) (own .own-classes .ensures) (found .reaches-itself .ensures)) (c .if1 .taken)
+    loop-stage (loop-search (p .pre .1) (own .own-classes .ensures) (found .reaches-itself .ensures)) (c .if1 .taken)
 
 same-length-3 : tie.Need-same-length-3
 same-length-3 c = search needs
@@ -41,7 +40,7 @@ returns-2 c =
     let p : tie.Start = search needs in
     let own : tie.After-own-classes = search needs in
     let found : tie.After-reaches-itself = search needs in
-    pass-stage (loop-search (p .pre .0) (p .pre .1) (own .own-classes .ensures) (found .reaches-itself .ensures)) (c .if1 .left)
+    pass-stage (loop-search (p .pre .1) (own .own-classes .ensures) (found .reaches-itself .ensures)) (c .if1 .left)
 
 pub loops-alone-spec : {M : Type 1} → statement M
 loops-alone-spec =

@@ -4,6 +4,7 @@ use Prim.Native.Nat.{_-_}
 use native.Mathlib.Omega.{arith}
 use lib.ListN.{length}
 use borrow.Author.Needs.{needs}
+use Rattle.table.proofs.Readable.{word-0}
 use Rattle.checker.proofs.NameLaws.{NoneYet, none-first, none-more, answer-here, answer-nowhere}
 use Rattle.checker.proofs.name_fault.first_repeated_name.Statement.{statement}
 use Rattle.checker.proofs.name_fault.first_repeated_name.Tie as tie
@@ -16,11 +17,11 @@ abbrev μ-loop : tie.MeasureT-loop
 
 begin-chains-requires : tie.Need-begin-chains-requires Inv-loop μ-loop
 begin-chains-requires c κs =
-    let p : tie.Start Inv-loop μ-loop = search needs in (p .pre .1, p .pre .2, p .pre .3)
+    let p : tie.Start Inv-loop μ-loop = search needs in (p .pre .0 .small, p .pre .1, word-0 (p .pre .0))
 
 loop-holds : tie.Need-loop-holds Inv-loop μ-loop
 loop-holds c =
-    let p : tie.Start Inv-loop μ-loop = search needs in none-first (c .before .before .begin-chains .ensures .chained) (p .pre .0)
+    let p : tie.Start Inv-loop μ-loop = search needs in none-first (c .before .before .begin-chains .ensures .chained) (p .pre .0 .some-word)
 
 repeats-name-requires : tie.Need-repeats-name-requires Inv-loop μ-loop
 repeats-name-requires c κs = (c .before .before .loop .inv .row .chained, c .before .loop-test .taken)

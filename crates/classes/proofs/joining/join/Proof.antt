@@ -4,14 +4,14 @@ use mathlib.Core.Path.{refl}
 use native.Mathlib.Omega.{arith}
 use borrow.Author.Needs.{needs}
 use Rattle.table.proofs.Pairs.{length-pairsOf, length-pairsOf-over}
-use Rattle.classes.proofs.Outcomes.{passed-check, starting-state, clash-joined, all-joined-flat, flattens}
+use Rattle.classes.proofs.Outcomes.{starting-state, clash-joined, all-joined-flat, flattens}
 use Rattle.classes.proofs.joining.join.Statement.{statement}
 use Rattle.classes.proofs.joining.join.Tie as tie
 
 join-each-requires : tie.Need-join-each-requires
 join-each-requires c κs =
     let p : tie.Start = search needs in
-    (passed-check (p .pre .1), starting-state (p .pre), p .pre .1 .sides)
+    (p .pre .1 .passed, starting-state (p .pre), p .pre .1 .sides)
 
 mul-clear16 : tie.Need-mul-clear16
 mul-clear16 c = search needs
@@ -45,7 +45,7 @@ flatten-requires : tie.Need-flatten-requires
 flatten-requires c κs =
     let p : tie.Start = search needs in
     let e : tie.After-join-each = search needs in
-    (flattens (e .join-each .ensures) (omega (arith, c .before .if1 .left, length-pairsOf (p .args .list .now))), p .pre .1 .small)
+    (flattens (e .join-each .ensures) (omega (arith, c .before .if1 .left, length-pairsOf (p .args .list .now))), p .pre .1 .passed .readable .small)
 
 same-length-3 : tie.Need-same-length-3
 same-length-3 c = search needs

@@ -2,7 +2,6 @@
 -- Assumes nothing.
 use native.Mathlib.Omega.{arith}
 use borrow.Author.Needs.{needs}
-use Rattle.table.proofs.Shape.{shaped-laid}
 use Rattle.classes.specs.Steps.Meeting.{went-on, clashed}
 use Rattle.classes.proofs.Heads.{said-at}
 use Rattle.classes.proofs.Linked.{room-to-wait, joined-moved, pushed-at, clash-stopped}
@@ -12,12 +11,12 @@ use Rattle.classes.proofs.meet.meet_ordered.Tie as tie
 head-requires : tie.Need-head-requires
 head-requires c κs =
     let p : tie.Start = search needs in
-    (shaped-laid (p .pre .0 .shaped), p .pre .0 .well-formed .inside _ (p .pre .2 .name-node))
+    (p .pre .0 .readable, p .pre .0 .well-formed .inside _ (p .pre .2 .name-node))
 
 head-requires-2 : tie.Need-head-requires-2
 head-requires-2 c κs =
     let p : tie.Start = search needs in
-    (shaped-laid (p .pre .0 .shaped), p .pre .0 .well-formed .inside _ (p .pre .2 .later-node))
+    (p .pre .0 .readable, p .pre .0 .well-formed .inside _ (p .pre .2 .later-node))
 
 meet-requires : tie.Need-meet-requires
 meet-requires c κs = search needs
@@ -54,7 +53,7 @@ push-requires : tie.Need-push-requires
 push-requires c κs =
     let p : tie.Start = search needs in
     let w : _ = room-to-wait (p .pre .0) (p .pre .1) (p .pre .2) in
-    (omega (arith, w, p .pre .1 .work-room), omega (arith, w, p .pre .0 .small))
+    (omega (arith, w, p .pre .1 .work-room), omega (arith, w, p .pre .0 .readable .small))
 
 add-t14 : tie.Need-add-t14
 add-t14 c = search needs
@@ -72,7 +71,7 @@ returns c =
     let k : tie.After-head2 = search needs in
     let m : tie.After-meet = search needs in
     λ owed. went-on (joined-moved (p .pre .0) (p .pre .1) (p .pre .2)
-    (said-at (p .pre .0 .shaped) _ _ (p .pre .2 .name-node) (p .pre .2 .later-node) (h .head .ensures) (k .head2 .ensures) (m .meet .ensures) (c .before .enum-told .given .1)) owed)
+    (said-at (p .pre .0 .readable) _ _ (p .pre .2 .name-node) (p .pre .2 .later-node) (h .head .ensures) (k .head2 .ensures) (m .meet .ensures) (c .before .enum-told .given .1)) owed)
 
 same-length-2 : tie.Need-same-length-2
 same-length-2 c = search needs
@@ -88,7 +87,7 @@ returns-2 c =
     let m : tie.After-meet = search needs in
     let w : tie.After-push = search needs in
     λ owed. went-on (pushed-at (p .pre .0) (p .pre .1) (p .pre .2)
-    (said-at (p .pre .0 .shaped) _ _ (p .pre .2 .name-node) (p .pre .2 .later-node) (h .head .ensures) (k .head2 .ensures) (m .meet .ensures)
+    (said-at (p .pre .0 .readable) _ _ (p .pre .2 .name-node) (p .pre .2 .later-node) (h .head .ensures) (k .head2 .ensures) (m .meet .ensures)
     (c .before .before .before .before .before .enum-told2 .given .1))
     (w .push .ensures) owed)
 
@@ -99,7 +98,7 @@ returns-3 c =
     let k : tie.After-head2 = search needs in
     let m : tie.After-meet = search needs in
     λ owed. clashed (clash-stopped (p .pre .0) (p .pre .1) (p .pre .2)
-    (said-at (p .pre .0 .shaped) _ _ (p .pre .2 .name-node) (p .pre .2 .later-node) (h .head .ensures) (k .head2 .ensures) (m .meet .ensures) (c .enum-told3 .given .1)) owed)
+    (said-at (p .pre .0 .readable) _ _ (p .pre .2 .name-node) (p .pre .2 .later-node) (h .head .ensures) (k .head2 .ensures) (m .meet .ensures) (c .enum-told3 .given .1)) owed)
 
 pub meet-ordered-spec : {M : Type 1} → statement M
 meet-ordered-spec =

@@ -2,7 +2,6 @@
 -- Assumes nothing.
 use mathlib.Core.Logic.{⊎-elim}
 use borrow.Author.Needs.{needs}
-use Rattle.table.proofs.Shape.{shaped-laid}
 use Rattle.classes.proofs.InOrder.{left-first, right-first, meets-turned, ordered-as, meets-as}
 use Rattle.classes.proofs.meet.meet_roots.Statement.{statement}
 use Rattle.classes.proofs.meet.meet_roots.Tie as tie
@@ -10,12 +9,12 @@ use Rattle.classes.proofs.meet.meet_roots.Tie as tie
 key-requires : tie.Need-key-requires
 key-requires c κs =
     let p : tie.Start = search needs in
-    (shaped-laid (p .pre .0 .shaped), p .pre .0 .well-formed .inside _ (p .pre .2 .left-node))
+    (p .pre .0 .readable, p .pre .0 .well-formed .inside _ (p .pre .2 .left-node))
 
 key-requires-2 : tie.Need-key-requires-2
 key-requires-2 c κs =
     let p : tie.Start = search needs in
-    (shaped-laid (p .pre .0 .shaped), p .pre .0 .well-formed .inside _ (p .pre .2 .right-node))
+    (p .pre .0 .readable, p .pre .0 .well-formed .inside _ (p .pre .2 .right-node))
 
 meet-ordered-requires : tie.Need-meet-ordered-requires
 meet-ordered-requires c κs =

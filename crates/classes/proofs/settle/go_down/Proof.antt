@@ -7,7 +7,6 @@ use native.Mathlib.Omega.{arith}
 use borrow.Author.Needs.{needs}
 use Rattle.graphs.specs.Graph.{Node, symbol-node}
 use Rattle.table.specs.Table.{graphOf, degree}
-use Rattle.table.proofs.Shape.{shaped-laid}
 use Rattle.classes.proofs.Symbols.{one-symbol-degree, child-node}
 use Rattle.classes.proofs.Down.{Going, going-starts, going-state, going-on, going-stops, going-ends}
 use Rattle.classes.proofs.settle.go_down.Statement.{statement}
@@ -23,7 +22,7 @@ abbrev μ-loop : tie.MeasureT-loop
 degree-requires : tie.Need-degree-requires Inv-loop μ-loop
 degree-requires c κs =
     let p : tie.Start Inv-loop μ-loop = search needs in
-    (shaped-laid (p .pre .0 .shaped), p .pre .0 .well-formed .inside _ (symbol-node (p .pre .2 .left-head)))
+    (p .pre .0 .readable, p .pre .0 .well-formed .inside _ (symbol-node (p .pre .2 .left-head)))
 
 loop-holds : tie.Need-loop-holds Inv-loop μ-loop
 loop-holds c = let p : tie.Start Inv-loop μ-loop = search needs in going-starts _ _ _ (p .pre .1)
@@ -32,13 +31,13 @@ child-requires : tie.Need-child-requires Inv-loop μ-loop
 child-requires c κs =
     let p : tie.Start Inv-loop μ-loop = search needs in
     let d : tie.After-degree Inv-loop μ-loop = search needs in
-    (shaped-laid (p .pre .0 .shaped), p .pre .0 .small, omega (arith, d .degree .ensures))
+    (p .pre .0 .readable, omega (arith, d .degree .ensures))
 
 child-requires-2 : tie.Need-child-requires-2 Inv-loop μ-loop
 child-requires-2 c κs =
     let p : tie.Start Inv-loop μ-loop = search needs in
     let d : tie.After-degree Inv-loop μ-loop = search needs in
-    (shaped-laid (p .pre .0 .shaped), p .pre .0 .small, omega (arith, d .degree .ensures, one-symbol-degree _ (p .pre .0 .well-formed) (p .pre .2)))
+    (p .pre .0 .readable, omega (arith, d .degree .ensures, one-symbol-degree _ (p .pre .0 .well-formed) (p .pre .2)))
 
 meet-requires : tie.Need-meet-requires Inv-loop μ-loop
 meet-requires c κs =

@@ -24,15 +24,7 @@ loop-holds c =
 next-requires : tie.Need-next-requires Inv-loop μ-loop
 next-requires c κs =
     let p : tie.Start Inv-loop μ-loop = search needs in
-    let o : tie.At-loop Inv-loop μ-loop = search needs in
-    let more : o .loop .j < degree (p .args .table .now) (p .args .x) = omega (arith, c .loop-test .taken, p .pre .3) in (
-      p .pre .0 .laid,
-      p .pre .0 .small,
-      more,
-      omega (arith, p .pre .0 .child-inside (p .args .x) (o .loop .j) more, p .pre .0 .row-room),
-      omega (arith, p .pre .2, p .pre .0 .small),
-      omega (arith, more, p .pre .0 .counts (p .args .x)),
-    )
+    (p .pre .0, omega (arith, c .loop-test .taken, p .pre .3))
 
 is-open-requires : tie.Need-is-open-requires Inv-loop μ-loop
 is-open-requires c κs =
@@ -40,7 +32,7 @@ is-open-requires c κs =
     let o : tie.At-loop Inv-loop μ-loop = search needs in
     let l : tie.In-loop Inv-loop μ-loop = search needs in
     let more : o .loop .j < degree (p .args .table .now) (p .args .x) = omega (arith, l .loop-test .taken, p .pre .3) in (
-      p .pre .0 .small,
+      p .pre .0 .readable,
       omega (arith, p .pre .0 .name-inside (p .args .x) (o .loop .j) more, c .next .ensures),
       p .pre .1 .room,
     )

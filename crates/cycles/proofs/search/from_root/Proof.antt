@@ -81,7 +81,7 @@ leaving c =
 push-requires : tie.Need-push-requires Inv-loop μ-loop
 push-requires c κs =
     let p : tie.Start Inv-loop μ-loop = search needs in
-    (omega (arith, p .pre .1 .room, p .pre .2), p .pre .2, p .pre .0 .small)
+    (omega (arith, p .pre .1 .room, p .pre .2), p .pre .2, p .pre .0 .readable .small)
 
 loop-holds : tie.Need-loop-holds Inv-loop μ-loop
 loop-holds c =
@@ -95,7 +95,7 @@ edge-count-requires c κs =
     let o : tie.At-loop Inv-loop μ-loop = search needs in
     let l : tie.In-loop Inv-loop μ-loop = search needs in
     let going : _ = o .loop .inv .0 in
-    (p .pre .0 .laid, p .pre .0 .small, end-inside (going .search) (l .loop-test .taken) (going .end (l .loop-test .taken)))
+    (p .pre .0 .readable, end-inside (going .search) (l .loop-test .taken) (going .end (l .loop-test .taken)))
 
 pass-over-requires : tie.Need-pass-over-requires Inv-loop μ-loop
 pass-over-requires c κs =
@@ -114,15 +114,7 @@ pass-over-requires c κs =
 next-requires : tie.Need-next-requires Inv-loop μ-loop
 next-requires c κs =
     let p : tie.Start Inv-loop μ-loop = search needs in
-    let v : tie.After-pass-over Inv-loop μ-loop = search needs in
-    let child : _ = p .pre .0 .child-inside (here v .loop .x) (v .pass-over .result) (more c) in (
-      p .pre .0 .laid,
-      p .pre .0 .small,
-      more c,
-      omega (arith, child, p .pre .0 .row-room),
-      omega (arith, x-inside v, p .pre .0 .small),
-      omega (arith, more c, p .pre .0 .counts (here v .loop .x)),
-    )
+    (p .pre .0, more c)
 
 at-requires : tie.Need-at-requires Inv-loop μ-loop
 at-requires c κs =
@@ -156,16 +148,16 @@ follow-requires c κs =
     let d : tie.Else2 Inv-loop μ-loop = search needs in (
       omega (arith, room-there (facing n) (fresh d), o .loop .inv .0 .search .room),
       x-inside v,
-      omega (arith, more b, p .pre .0 .counts (here v .loop .x)),
+      omega (arith, more b, o .loop .inv .0 .search .few-edges (here v .loop .x)),
       facing n .inside,
-      p .pre .0 .small,
+      p .pre .0 .readable .small,
     )
 
 add-depth : tie.Need-add-depth Inv-loop μ-loop
 add-depth c =
     let p : tie.Start Inv-loop μ-loop = search needs in
     let o : tie.At-loop Inv-loop μ-loop = search needs in
-    omega (arith, o .loop .inv .0 .search .few, p .pre .0 .small)
+    omega (arith, o .loop .inv .0 .search .few, p .pre .0 .readable .small)
 
 loop-less : tie.Need-loop-less Inv-loop μ-loop
 loop-less c =
@@ -199,7 +191,7 @@ end-requires c κs =
     let t : tie.Then3 Inv-loop μ-loop = search needs in
     let g : tie.After-finish Inv-loop μ-loop = search needs in
     let S : _ = o .loop .inv .0 .search in
-    (t .if3 .taken, omega (arith, S .few), omega (arith, S .room, g .finish .kept .0), p .pre .0 .small)
+    (t .if3 .taken, omega (arith, S .few), omega (arith, S .room, g .finish .kept .0), p .pre .0 .readable .small)
 
 at-requires-2 : tie.Need-at-requires-2 Inv-loop μ-loop
 at-requires-2 c κs =

@@ -1,7 +1,7 @@
 -- `cycles::search::reaches_itself` meets its contract: the first clearing lets the search start, and the last one leaves zeros, with what is
 -- behind them as it came. Assumes nothing.
 use borrow.Author.Needs.{needs}
-use Rattle.cycles.proofs.Roots.{ready, started, searched}
+use Rattle.cycles.proofs.Roots.{started, searched}
 use Rattle.cycles.proofs.search.reaches_itself.Statement.{statement}
 use Rattle.cycles.proofs.search.reaches_itself.Tie as tie
 
@@ -12,7 +12,7 @@ from-each-requires : tie.Need-from-each-requires
 from-each-requires c κs =
     let p : tie.Start = search needs in
     let k : tie.After-clear16 = search needs in
-    (ready (p .args .work .now) (p .pre), started (p .args .work .now) (p .pre) (k .clear16 .ensures) (k .clear16 .kept .0))
+    (p .pre .0, started (p .args .work .now) (p .pre .0) (p .pre .1) (k .clear16 .ensures) (k .clear16 .kept .0))
 
 mul-clear16 : tie.Need-mul-clear16
 mul-clear16 c = search needs

@@ -5,6 +5,7 @@ use native.Mathlib.Omega.{arith}
 use Rattle.words.specs.declared.kind.Kind.the-variants.{Function}
 use Rattle.words.proofs.KindLaws.{told-others}
 use Rattle.table.specs.Table.{degree}
+use Rattle.table.proofs.Readable.{block-inside}
 use Rattle.table.proofs.Leaves.{picked, passed}
 use borrow.Author.Needs.{needs}
 use Rattle.table.proofs.node.degree.Statement.{statement}
@@ -32,7 +33,7 @@ mul-content : tie.Need-mul-content
 mul-content c = search needs
 
 shared-slice-read-content : tie.Need-shared-slice-read-content
-shared-slice-read-content c = let p : tie.Start = search needs in omega (arith, p .pre .0 (p .args .x .0) (sym (c .before .before .before .kind .ensures) ∙ c .before .enum-told .given .1))
+shared-slice-read-content c = let p : tie.Start = search needs in omega (arith, block-inside (p .pre .0) (p .args .x .0) (sym (c .before .before .before .kind .ensures) ∙ c .before .enum-told .given .1))
 
 content-requires : tie.Need-content-requires
 content-requires c κs = search needs

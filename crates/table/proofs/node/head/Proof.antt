@@ -6,6 +6,7 @@ use Rattle.words.specs.declared.kind.Kind.the-variants.{Constant, Function}
 use Rattle.words.specs.declared.head.Head.{Head}
 use Rattle.words.proofs.KindLaws.{told-others}
 use Rattle.table.specs.Heads.{top}
+use Rattle.table.proofs.Readable.{block-inside}
 use Rattle.table.proofs.Leaves.{picked, passed, as-label}
 use borrow.Author.Needs.{needs}
 use Rattle.table.proofs.node.head.Statement.{statement}
@@ -37,7 +38,7 @@ mul-content c = search needs
 
 shared-slice-read-content : tie.Need-shared-slice-read-content
 shared-slice-read-content c =
-    let p : tie.Start = search needs in omega (arith, p .pre .0 (p .args .x .0) (sym (c .before .before .before .before .kind .ensures) ∙ c .before .before .enum-told .given .1))
+    let p : tie.Start = search needs in omega (arith, block-inside (p .pre .0) (p .args .x .0) (sym (c .before .before .before .before .kind .ensures) ∙ c .before .before .enum-told .given .1))
 
 content-requires : tie.Need-content-requires
 content-requires c κs = search needs

@@ -1,8 +1,8 @@
--- A table whose words, layout and pointers have no fault.
+-- A table that can be read: its words, layout and pointers have no fault.
 --
 -- In order: word 0 and the words behind it; the block of a function (`block-arguments`, `block-count`), which ends
--- inside the table (`shaped-laid`); what an argument word names is a node (`shaped-child`); counts are
--- small (`shaped-degree`). Assumes nothing.
+-- inside the table (`block-inside`), with each of its arguments (`argument-inside`); what an argument word names is a node
+-- (`child-is-node`) and so inside too (`child-inside`); counts are small (`degree-small`). Assumes nothing.
 use mathlib.Core.Path.{_≡_, refl, sym, ap, _∙_}
 use mathlib.Core.Bool.{Bool, true, false, not, _&&_, _||_}
 use mathlib.Core.List.{List, [], _∷_}
@@ -20,10 +20,10 @@ use Rattle.words.proofs.Tests.{false-exactly, or-false}
 use Rattle.words.proofs.WordLaws.{same-kind-exactly}
 use Rattle.words.proofs.KindLaws.{not-both, one-of, every-kind}
 use Rattle.graphs.proofs.Classes.{never}
-use Rattle.table.specs.Table.{wordAt, kindAt, contentAt, nodeKind, choose, named, degree, childOf, Laid}
+use Rattle.table.specs.Table.{wordAt, kindAt, contentAt, nodeKind, choose, named, degree, childOf}
 use Rattle.table.specs.Layout.{item}
 use Rattle.table.specs.Faults.{badKind, badLater, badTarget}
-use Rattle.table.specs.Shaped.{Shaped}
+use Rattle.table.specs.Readable.{Readable}
 use Rattle.table.proofs.Leaves.{past-end}
 use Rattle.table.proofs.Blocks.{Arguments, CountAndArguments, Blocks, whole-begins}
 use Rattle.table.proofs.Children.{degree-function}
@@ -38,7 +38,7 @@ inside-kind t x test fails e = go (leb (length t) x) refl
     go false q = leb-false (length t) x q
     go true q = let k : kindAt t x ≡ NoWord = past-end t x (leb-true (length t) x q) in let f : test (kindAt t x) ≡ false = ap test k ∙ fails in never (cc)
 
-module _ {t : List ℕ} (c : Shaped t) where
+module _ {t : List ℕ} (c : Readable t) where
   pub word-0 : wordAt t 0 ≡ 0
   unfolding badLater
   word-0 = go (eqb (wordAt t 0) 0) refl
@@ -88,8 +88,12 @@ module _ {t : List ℕ} (c : Shaped t) where
       let n : wordAt (drop 1 t) (x + 1) ≡ wordAt t (suc x + 1) = behind (x + 1) ∙ ap (wordAt t) (let q : x + 1 + 1 ≡ suc x + 1 = omega arith in q) in
       ap kindOf (sym n) ∙ blocks x (ap kindOf e ∙ f) .counts
 
-  pub shaped-laid : Laid t
-  shaped-laid x f = omega (arith, block-arguments x f .fit)
+  pub block-inside : (x : ℕ) → kindAt t x ≡ Function → x + 1 + contentAt t (x + 1) < length t
+  block-inside x f = omega (arith, block-arguments x f .fit)
+
+  -- a function that has a child at place i has its argument word there
+  pub argument-inside : (x i : ℕ) → i < degree t x → x + 2 + i < length t
+  argument-inside x i h = let f = degree-function t x i h in omega (arith, block-inside x (f .0), f .1)
 
   -- what is above 0 and inside the table is a word
   is-word : (a : ℕ) → 0 < a → a < length t → kindAt t a ≡ NoWord → ⊥
@@ -118,15 +122,17 @@ module _ {t : List ℕ} (c : Shaped t) where
       at : {k : Kind} → kindAt t a ≡ k → nodeKind (kindAt t (choose (sameKind k Pointer) (contentAt t a) a)) ≡ true → nodeKind (kindAt t (named t a)) ≡ true
       at q s = ap (λ (k : Kind). nodeKind (kindAt t (choose (sameKind k Pointer) (contentAt t a) a))) q ∙ s
 
-  pub shaped-child : (x i : ℕ) → i < degree t x → nodeKind (kindAt t (childOf t x i)) ≡ true
-  shaped-child x i h =
+  pub child-is-node : (x i : ℕ) → i < degree t x → nodeKind (kindAt t (childOf t x i)) ≡ true
+  child-is-node x i h =
       let f : (kindAt t x ≡ Function) × (i < contentAt t (x + 1)) = degree-function t x i h in
-      let b : Arguments t (x + 2) (contentAt t (x + 1)) = block-arguments x (f .0) in
-      argument-node (x + 2 + i) (omega (arith, b .fit, f .1)) (b .stand i (f .1))
+      argument-node (x + 2 + i) (argument-inside x i h) (block-arguments x (f .0) .stand i (f .1))
 
-  pub shaped-degree : (x : ℕ) → degree t x ≤ mostArguments
+  pub child-inside : (x i : ℕ) → i < degree t x → childOf t x i < length t
+  child-inside x i h = inside-kind t (childOf t x i) nodeKind refl (child-is-node x i h)
+
+  pub degree-small : (x : ℕ) → degree t x ≤ mostArguments
   unfolding degree choose badLater badKind
-  shaped-degree x = go (sameKind (kindAt t x) Function) refl
+  degree-small x = go (sameKind (kindAt t x) Function) refl
     where
       small-count : (a : ℕ) → 0 < a → a < length t → kindAt t a ≡ Count → contentAt t a ≤ mostArguments
       small-count zero l u e = absurd (omega arith)
@@ -140,5 +146,5 @@ module _ {t : List ℕ} (c : Shaped t) where
       go : (b : Bool) → sameKind (kindAt t x) Function ≡ b → choose b (contentAt t (x + 1)) 0 ≤ mostArguments
       go true e =
           let f : kindAt t x ≡ Function = same-kind-exactly (kindAt t x) Function .0 e in
-          small-count (x + 1) (omega arith) (omega (arith, shaped-laid x f)) (block-count x f)
+          small-count (x + 1) (omega arith) (omega (arith, block-inside x f)) (block-count x f)
       go false e = omega arith
