@@ -25,7 +25,7 @@ use Rattle.words.proofs.KindLaws.{other-kind, not-both}
 use Rattle.graphs.proofs.Classes.{never}
 use Rattle.table.specs.Table.{wordAt, kindAt, contentAt}
 use Rattle.table.specs.Layout.{Wanted, item, count, arguments, more, canStand, after, atEnd}
-use Rattle.table.specs.Faults.{badKind, badLater, badTarget, Repeats}
+use Rattle.table.specs.Faults.{badKind, badWord, badTarget, Repeats}
 use Rattle.table.specs.Readable.{Readable}
 use Rattle.checker.specs.Steps.Sound.{soundCount, Good, Walked}
 use Rattle.shape.proofs.LayoutLaws.{break-stands, break-ends}
@@ -34,7 +34,7 @@ use Rattle.checker.proofs.NameLaws.{repeats-inside}
 -- ---- one address
 
 pub good-first : (t : List ℕ) → wordAt t 0 ≡ 0 → Good t 0
-unfolding badLater kindOf
+unfolding badWord kindOf
 good-first t e = record {
   word = ap not (eq-eqb (wordAt t 0) 0 e);
   pointer = ap (λ (w : ℕ). sameKind (kindOf w) Pointer && badTarget t (contentAt t 0)) e;
@@ -43,7 +43,7 @@ good-first t e = record {
 
 -- a later word is good if its kind, its content and its name are
 good-later : (t : List ℕ) (a : ℕ) (k : Kind) → 0 < a → kindAt t a ≡ k → badKind k (contentAt t a) ≡ false → (sameKind k Pointer && badTarget t (contentAt t a)) ≡ false → (Repeats t a → ⊥) → Good t a
-unfolding badLater
+unfolding badWord
 good-later t zero k h e w p n = absurd (omega arith)
 good-later t (suc a) k h e w p n = record {
   word = ap (λ (q : Kind). badKind q (contentAt t (suc a))) e ∙ w;

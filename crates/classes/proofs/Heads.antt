@@ -22,7 +22,7 @@ use Rattle.graphs.specs.Partition.{key, keyOf}
 use Rattle.graphs.proofs.Classes.{never}
 use Rattle.table.specs.Table.{TableSymbols, graphOf, degree, choose, kindAt, contentAt, labelAt, headOf, childrenAt}
 use Rattle.table.specs.Heads.{top}
-use Rattle.table.specs.Faults.{badKind, badLater, badWord}
+use Rattle.table.specs.Faults.{badKind, badWord}
 use Rattle.table.specs.Readable.{Readable}
 use Rattle.table.proofs.Children.{kind-head, node-kind}
 use Rattle.table.proofs.Readable.{block-count, block-inside}
@@ -38,7 +38,7 @@ pub data Seen (t : List ℕ) (x : ℕ) : Type 0 where
 
 -- A function counts an argument, so no constant has its symbol.
 function-counts : {t : List ℕ} → Readable t → (x : ℕ) → kindAt t x ≡ Kind.Function → contentAt t (x + 1) ≡ 0 → ⊥
-unfolding badKind badLater
+unfolding badKind badWord
 function-counts {t} readable x f z = readable .words (suc x) inside bad
   where
     at : x + 1 ≡ suc x

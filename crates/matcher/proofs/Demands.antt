@@ -20,11 +20,11 @@ use Rattle.graphs.specs.Partition.{Pair, pairsOf, _∈_, Sides, Same, Smallest,
 use Rattle.graphs.specs.Term.{WellCounted, Replacement, _then_, Unifies, FollowsRule, answer}
 use Rattle.graphs.proofs.Theorems.{unifier-no-clash, unifier-no-cycle, no-pairs-no-clash, no-pairs-no-cycle, answer-unifies, answer-most-general, answer-follows-rule, answer-only, answer-counted, class-table-classes, class-table-smallest, first-pairs-grow, class-table-or-clash}
 use Rattle.table.specs.Table.{TableSymbols, graphOf}
-use Rattle.table.specs.Faults.{Job, number, Fault, clash-fault, cycle-fault, checkOrder, listRows, pairRows, matchOrder}
+use Rattle.table.specs.Faults.{Job, FirstClash, FirstCycle, number, Fault, clash-fault, cycle-fault, checkOrder, listRows, pairRows, matchOrder}
 use Rattle.table.proofs.OneAnswer.{fault-once}
 use Rattle.matcher.specs.declared.answer.Matched.{Matched}
 use Rattle.matcher.specs.Match.{numberOf, placeOf, joinsOf, AcceptedWith, jobOf, MatchOf, Passes}
-use Rattle.matcher.specs.Demands.{Met, MetCounted, FirstUnmet, FirstClash, FirstCycle}
+use Rattle.matcher.specs.Demands.{Met, MetCounted, FirstUnmet}
 use Rattle.matcher.specs.Steps.PassedAll.{PassedAll}
 use Rattle.matcher.proofs.Verdicts.{ready, list-so-far, accepted-answered, clash-answered, cycle-answered}
 
@@ -51,15 +51,14 @@ module _ {S : Symbols} (G : Graph S) where
 module _ {job : Job} where
   clash-told : (a p : ℕ) → a ≡ 10 → Answered number (Fault job) pairRows a p → (i : ℕ) × (p ≡ i + 1) × FirstClash (graphOf (job .table)) (pairsOf (job .list)) i
   unfolding number
-  clash-told a p ten (inl (e, clash-fault {i} h c n m)) = (i, refl, record { within = h; clash = c; no-clash-before = n; no-cycle-before = m })
+  clash-told a p ten (inl (e, clash-fault {i} f)) = (i, refl, f)
   clash-told a p ten (inr (no-clash, inl (e, f))) = absurd (omega arith)
   clash-told a p ten (inr (no-clash, inr (no-cycle, (z, e)))) = absurd (omega arith)
 
   cycle-told : (a p : ℕ) → a ≡ 11 → Answered number (Fault job) pairRows a p → (i : ℕ) × (p ≡ i + 1) × FirstCycle (graphOf (job .table)) (pairsOf (job .list)) i
   unfolding number
   cycle-told a p eleven (inl (e, f)) = absurd (omega arith)
-  cycle-told a p eleven (inr (no-clash, inl (e, cycle-fault {i} h c f n m))) =
-      (i, refl, record { within = h; cycle = c; no-clash = f; no-clash-before = n; no-cycle-before = m })
+  cycle-told a p eleven (inr (no-clash, inl (e, cycle-fault {i} f))) = (i, refl, f)
   cycle-told a p eleven (inr (no-clash, inr (no-cycle, (z, e)))) = absurd (omega arith)
 
   which : (a p : ℕ) → Answered number (Fault job) pairRows a p → (a ≡ 0) ⊎ ((a ≡ 10) ⊎ (a ≡ 11))
@@ -129,8 +128,11 @@ module _ {t list class work : List ℕ} {r : Matched} {class-after work-after : 
       one-more : (Clash (graphOf t) (take k (pairsOf list)) → ⊥) × (Cycle (graphOf t) (take k (pairsOf list)) → ⊥)
           → (Clash (graphOf t) (take (k + 1) (pairsOf list)) → ⊥) × (Cycle (graphOf t) (take (k + 1) (pairsOf list)) → ⊥)
       one-more (no-clash, no-cycle) =
-          let clash : Clash (graphOf t) (take (k + 1) (pairsOf list)) → ⊥ = λ c. neither .0 (k + 1) (clash-fault (omega arith) c no-clash no-cycle) in
-          (clash, λ c. neither .1 .0 (k + 1) (cycle-fault (omega arith) c clash no-clash no-cycle))
+          let clash : Clash (graphOf t) (take (k + 1) (pairsOf list)) → ⊥ =
+          λ c. neither .0 (k + 1) (clash-fault (record { within = omega arith; clash = c; no-clash-before = no-clash; no-cycle-before = no-cycle })) in (
+            clash,
+            λ c. neither .1 .0 (k + 1) (cycle-fault (record { within = omega arith; cycle = c; no-clash = clash; no-clash-before = no-clash; no-cycle-before = no-cycle })),
+          )
 
   faultless : numberOf r ≡ 0 → (Clash (graphOf t) (pairsOf list) → ⊥) × (Cycle (graphOf t) (pairsOf list) → ⊥)
   faultless z =
@@ -189,7 +191,7 @@ module _ {t list class work : List ℕ} {r : Matched} {class-after work-after : 
     λ (e, q).
         let shown : (j : ℕ) × (placeOf r ≡ j + 1) × FirstClash (graphOf t) (pairsOf list) j = clash-told (numberOf r) (placeOf r) e by-pairs in
         subst (FirstClash (graphOf t) (pairsOf list)) (let a : placeOf r ≡ shown .0 + 1 = shown .1 in omega arith) (shown .2),
-    λ f. answered-as 10 (i + 1) (clash-answered passes i (f .within) (f .clash) (f .no-clash-before) (f .no-cycle-before)),
+    λ f. answered-as 10 (i + 1) (clash-answered passes i f),
   )
 
   -- The answer is 11 at i + 1 exactly where the first i + 1 pairs have a cycle and no clash, and the first i neither.
@@ -198,7 +200,7 @@ module _ {t list class work : List ℕ} {r : Matched} {class-after work-after : 
     λ (e, q).
         let shown : (j : ℕ) × (placeOf r ≡ j + 1) × FirstCycle (graphOf t) (pairsOf list) j = cycle-told (numberOf r) (placeOf r) e by-pairs in
         subst (FirstCycle (graphOf t) (pairsOf list)) (let a : placeOf r ≡ shown .0 + 1 = shown .1 in omega arith) (shown .2),
-    λ f. answered-as 11 (i + 1) (cycle-answered passes i (i + 1) (f .within) (omega arith) (f .cycle) (f .no-cycle-before) (f .no-clash)),
+    λ f. answered-as 11 (i + 1) (cycle-answered passes i f),
   )
 
   unmet-at : {k : ℕ} (i : ℕ) → k ≡ i + 1 → i < length (pairsOf list) → (Met (graphOf t) (take (i + 1) (pairsOf list)) → ⊥)

@@ -18,7 +18,7 @@ use Rattle.graphs.specs.Partition.{Pair, pairsOf, Clash, Cycle, ClassTable, isN
 use Rattle.graphs.proofs.Theorems.{no-pairs-no-cycle}
 use Rattle.graphs.proofs.Classes.{clash-grows, first-pairs-grow}
 use Rattle.table.specs.Table.{graphOf}
-use Rattle.table.specs.Faults.{Fault, number, matchOrder}
+use Rattle.table.specs.Faults.{FirstCycle, Fault, number, matchOrder}
 use Rattle.cycles.specs.Digraph.{Searchable, Searched}
 use Rattle.classes.specs.declared.joining.Joined.{Joined}
 use Rattle.classes.specs.Counting.{NamesNodes}
@@ -134,9 +134,17 @@ module _ {t list class work : List ℕ} (passes : Passes (jobOf t list class wor
   unfolding changesNothing
   cycle-verdict {all = all} few c e at n =
       let place : at .0 ≡ c .place + 1 = n ∙ c .numbers in
+      let inside : c .place + 1 ≤ all = omega (arith, c .within, c .numbers) in
+      let first : FirstCycle (graphOf t) (pairsOf list) (c .place) =
       record {
-        answered = subst (λ (p : ℕ). Answered number (Fault (jobOf t list class work)) matchOrder 11 p) (sym place)
-            (cycle-answered passes (c .place) all (omega (arith, few .inside, c .within, c .numbers)) (omega (arith, c .within, c .numbers)) (c .cycle) (c .none-before) (few .no-clash));
+        within = omega (arith, few .inside);
+        cycle = c .cycle;
+        no-clash = fewer-clashless (c .place + 1) few inside .no-clash;
+        no-clash-before = fewer-clashless (c .place) few (omega arith) .no-clash;
+        no-cycle-before = c .none-before;
+      } in
+      record {
+        answered = subst (λ (p : ℕ). Answered number (Fault (jobOf t list class work)) matchOrder 11 p) (sym place) (cycle-answered passes (c .place) first);
         late = refl;
         bound = λ z. absurd (omega arith);
         refused = λ z. cleared-row t class _ (c .lent .class-behind) e;
@@ -157,7 +165,7 @@ module _ {t list class work : List ℕ} (passes : Passes (jobOf t list class wor
     clash-verdict h e at n =
         record {
           answered = subst (λ (p : ℕ). Answered number (Fault (jobOf t list class work)) matchOrder 10 p) (sym n)
-              (clash-answered passes m h (until .next h) (until .partitioned .no-clash) no-cycle);
+              (clash-answered passes m (record { within = h; clash = until .next h; no-clash-before = until .partitioned .no-clash; no-cycle-before = no-cycle }));
           late = refl;
           bound = λ z. absurd (omega arith);
           refused = λ z. cleared-row t class _ (until .lent .class-behind) e;

@@ -23,7 +23,7 @@ use Rattle.graphs.specs.Partition.{Pair, pairsOf, _∈_, Sides, Clash, Cycle}
 use Rattle.graphs.proofs.Classes.{never}
 use Rattle.graphs.proofs.Theorems.{first-pairs-grow, clash-grows, cycle-grows}
 use Rattle.table.specs.Table.{kindAt, nodeKind, graphOf}
-use Rattle.table.specs.Faults.{Job, odd, badSides, pairAt, LIST, ADDRESS, CLASH, CYCLE, number, Fault, room-fault, list-fault, address-fault, clash-fault, cycle-fault, sizeRows, tableRows, listRows, pairRows, checkOrder, matchOrder}
+use Rattle.table.specs.Faults.{Job, odd, badSides, pairAt, FirstClash, FirstCycle, LIST, ADDRESS, CLASH, CYCLE, number, Fault, room-fault, list-fault, address-fault, clash-fault, cycle-fault, sizeRows, tableRows, listRows, pairRows, checkOrder, matchOrder}
 use Rattle.table.proofs.Pairs.{pair-place}
 use Rattle.table.proofs.Children.{kind-node}
 use Rattle.table.proofs.PassedCheck.{passed-check}
@@ -148,32 +148,23 @@ module _ {job : Job} (passes : Passes job) where
   accepted-answered no-clash no-cycle = behind-nine 0 0 (inr (clash-row, inr (cycle-row, (refl, refl))))
     where
       clash-row : (p : ℕ) → Fault job CLASH p → ⊥
-      clash-row p (clash-fault {i} h c n m) = no-clash (clash-grows (list-so-far (i + 1)) c)
+      clash-row p (clash-fault {i} f) = no-clash (clash-grows (list-so-far (i + 1)) (f .clash))
 
       cycle-row : (p : ℕ) → Fault job CYCLE p → ⊥
-      cycle-row p (cycle-fault {i} h c f n m) = no-cycle (cycle-grows (list-so-far (i + 1)) c)
+      cycle-row p (cycle-fault {i} f) = no-cycle (cycle-grows (list-so-far (i + 1)) (f .cycle))
 
-  pub clash-answered : (i : ℕ) → i < length (pairsOf (job .list)) → Clash (graphOf (job .table)) (take (i + 1) (pairsOf (job .list)))
-      → (Clash (graphOf (job .table)) (take i (pairsOf (job .list))) → ⊥) → (Cycle (graphOf (job .table)) (take i (pairsOf (job .list))) → ⊥)
-      → Answered number (Fault job) matchOrder 10 (i + 1)
+  pub clash-answered : (i : ℕ) → FirstClash (graphOf (job .table)) (pairsOf (job .list)) i → Answered number (Fault job) matchOrder 10 (i + 1)
   unfolding number
-  clash-answered i h clash no-clash no-cycle = behind-nine 10 (i + 1) (inl (refl, clash-fault h clash no-clash no-cycle))
+  clash-answered i f = behind-nine 10 (i + 1) (inl (refl, clash-fault f))
 
-  -- The search for cycles may run after later pairs were joined, m of them in all, as long as these have no clash.
-  pub cycle-answered : (i m : ℕ) → i < length (pairsOf (job .list)) → i + 1 ≤ m → Cycle (graphOf (job .table)) (take (i + 1) (pairsOf (job .list)))
-      → (Cycle (graphOf (job .table)) (take i (pairsOf (job .list))) → ⊥) → (Clash (graphOf (job .table)) (take m (pairsOf (job .list))) → ⊥)
-      → Answered number (Fault job) matchOrder 11 (i + 1)
+  pub cycle-answered : (i : ℕ) → FirstCycle (graphOf (job .table)) (pairsOf (job .list)) i → Answered number (Fault job) matchOrder 11 (i + 1)
   unfolding number
-  cycle-answered i m h before cycle no-cycle no-clash =
-      behind-nine 11 (i + 1)
-      (inr (clash-row, inl (refl, cycle-fault h cycle (λ c. no-clash (sooner (i + 1) before c)) (λ c. no-clash (sooner i (omega arith) c)) no-cycle)))
+  cycle-answered i f = behind-nine 11 (i + 1) (inr (clash-row, inl (refl, cycle-fault f)))
     where
-      sooner : (j : ℕ) → j ≤ m → Clash (graphOf (job .table)) (take j (pairsOf (job .list))) → Clash (graphOf (job .table)) (take m (pairsOf (job .list)))
-      sooner j l c = clash-grows (first-pairs-grow j m (pairsOf (job .list)) l) c
-
+      -- A clash up to this pair is one that f excludes; a later one comes after f's cycle.
       clash-row : (p : ℕ) → Fault job CLASH p → ⊥
-      clash-row p (clash-fault {i = j} k c n l) = go (decLt j m)
+      clash-row p (clash-fault {i = j} c) = go (decLt j (i + 1))
         where
-          go : Dec (j < m) → ⊥
-          go (yes q) = no-clash (sooner (j + 1) (omega arith) c)
-          go (no q) = l (cycle-grows (first-pairs-grow (i + 1) j (pairsOf (job .list)) (omega arith)) cycle)
+          go : Dec (j < i + 1) → ⊥
+          go (yes h) = f .no-clash (clash-grows (first-pairs-grow (j + 1) (i + 1) (pairsOf (job .list)) (omega arith)) (c .clash))
+          go (no h) = c .no-cycle-before (cycle-grows (first-pairs-grow (i + 1) j (pairsOf (job .list)) (omega arith)) (f .cycle))

@@ -1,9 +1,9 @@
 -- The words in which the demands on a match are stated (proofs/Demands.antt). Assumes nothing.
 use mathlib.Core.List.{List}
-use Prim.Native.Nat.{ℕ, _+_, _-_, _≤_, _<_}
+use Prim.Native.Nat.{ℕ, _-_, _≤_, _<_}
 use lib.ListN.{length, take}
 use Rattle.graphs.specs.Graph.{Symbols, Graph}
-use Rattle.graphs.specs.Partition.{Pair, Clash, Cycle}
+use Rattle.graphs.specs.Partition.{Pair}
 use Rattle.graphs.specs.Term.{WellCounted, Replacement, Unifies}
 
 -- Some replacement makes both sides of every pair equal.
@@ -20,18 +20,3 @@ pub record FirstUnmet {S : Symbols} (G : Graph S) (pairs : List Pair) (k : ℕ) 
   pub within : k ≤ length pairs
   pub unmet : Met G (take k pairs) → ⊥
   pub met-before : Met G (take (k - 1) pairs)
-
--- "first k pairs have a clash, first k-1 have neither clash nor cycle", at k = i + 1
-pub record FirstClash {S : Symbols} (G : Graph S) (pairs : List Pair) (i : ℕ) : Type 0 where
-  pub within : i < length pairs
-  pub clash : Clash G (take (i + 1) pairs)
-  pub no-clash-before : Clash G (take i pairs) → ⊥
-  pub no-cycle-before : Cycle G (take i pairs) → ⊥
-
--- "first k pairs have a cycle and no clash, first k-1 have neither", at k = i + 1
-pub record FirstCycle {S : Symbols} (G : Graph S) (pairs : List Pair) (i : ℕ) : Type 0 where
-  pub within : i < length pairs
-  pub cycle : Cycle G (take (i + 1) pairs)
-  pub no-clash : Clash G (take (i + 1) pairs) → ⊥
-  pub no-clash-before : Clash G (take i pairs) → ⊥
-  pub no-cycle-before : Cycle G (take i pairs) → ⊥

@@ -13,16 +13,16 @@ use lib.Dec.{eqb, ltb}
 use lib.ListN.{length}
 use borrow.Author.Tests.{eq-eqb, ne-eqb, le-leb, lt-leb}
 use Rattle.words.specs.Limits.{mostArguments}
-use Rattle.words.specs.Word.{sameKind, isOneOf}
+use Rattle.words.specs.Word.{isOneOf}
 use Rattle.words.specs.declared.kind.Kind.{Kind}
 use Rattle.words.specs.declared.kind.Kind.the-variants.{Pointer, Count, NoWord}
 use Rattle.words.proofs.WordLaws.{same-kind-exactly}
 use Rattle.words.proofs.KindLaws.{other-kind}
 use Rattle.table.specs.Table.{wordAt, kindAt, contentAt}
-use Rattle.table.specs.Faults.{badKind, badLater, badTarget, badPointer}
+use Rattle.table.specs.Faults.{badKind, badWord, badTarget, badPointer}
 
-pub first-word : (t : List ℕ) (a : ℕ) → a ≡ 0 → not (eqb (wordAt t a) 0) ≡ badLater a t
-unfolding badLater
+pub first-word : (t : List ℕ) (a : ℕ) → a ≡ 0 → not (eqb (wordAt t a) 0) ≡ badWord t a
+unfolding badWord
 first-word t zero e = refl
 first-word t (suc a) e = absurd (omega arith)
 
@@ -32,8 +32,8 @@ pub later-word :
     kind ≡ kindAt t a →
     content ≡ contentAt t a →
     b ≡ badKind kind content →
-    b ≡ badLater a t
-unfolding badLater
+    b ≡ badWord t a
+unfolding badWord
 later-word t zero other k c e = absurd (other refl)
 later-word t (suc a) other k c e = e ∙ (λ i. badKind (k i) (c i))
 

@@ -264,6 +264,15 @@ module _ (e : Example) (i : ℕ) (s : RowSettled) (b : Before e i s) (log : List
   no-loop-before : (x : ℕ) → Steps (Child (graphIn e)) x x → ⊥
   no-loop-before = no-loop-in e (b .found .row) (s .ranks) (b .found .falls)
 
+  sides-there : (k : ℕ) → Sides (graphIn e) (take k (pairsIn e))
+  sides-there = sides-to e (b .sent) (b .list) no-loop-before
+
+  none-before : (Clash (graphIn e) (take i (pairsIn e)) → ⊥) × (Cycle (graphIn e) (take i (pairsIn e)) → ⊥)
+  none-before = (
+    settles-no-clash e (b .sent) (b .list) no-loop-before (sides-there i) (b .found),
+    settles-no-cycle e (b .sent) (b .list) no-loop-before (sides-there i) (b .found),
+  )
+
   clash-holds : (x y : ℕ) → answers e 10 (i + 1) ≡ true
       → endsIn (replay (graphIn e) (take (i + 1) (pairsIn e)) log) (λ row. clashes (graphIn e) row x y) ≡ true → RowHolds e
   clash-holds x y said met =
@@ -271,10 +280,13 @@ module _ (e : Example) (i : ℕ) (s : RowSettled) (b : Before e i s) (log : List
       ends-in (replay (graphIn e) (take (i + 1) (pairsIn e)) log) (λ row. clashes (graphIn e) row x y) met in
       refused-holds e 10 (i + 1) (omega arith) said (b .made)
       (λ c w class-enough work-enough.
-      clash-answered (all-clear e (b .sent) (b .list) no-loop-before c w class-enough work-enough) i (b .within)
-      (log-clash (formed e (b .sent) (b .list) no-loop-before) (sides-to e (b .sent) (b .list) no-loop-before (i + 1)) log (end .1) x y (end .2))
-      (settles-no-clash e (b .sent) (b .list) no-loop-before (sides-to e (b .sent) (b .list) no-loop-before i) (b .found))
-      (settles-no-cycle e (b .sent) (b .list) no-loop-before (sides-to e (b .sent) (b .list) no-loop-before i) (b .found)))
+      clash-answered (all-clear e (b .sent) (b .list) no-loop-before c w class-enough work-enough) i
+      (record {
+        within = b .within;
+        clash = log-clash (formed e (b .sent) (b .list) no-loop-before) (sides-there (i + 1)) log (end .1) x y (end .2);
+        no-clash-before = none-before .0;
+        no-cycle-before = none-before .1;
+      }))
 
   cycle-holds : (ways : List Down) → answers e 11 (i + 1) ≡ true
       → endsIn (replay (graphIn e) (take (i + 1) (pairsIn e)) log) (λ row. closed (graphIn e) (take (i + 1) (pairsIn e)) row and cycles (graphIn e) row ways) ≡ true → RowHolds e
@@ -283,10 +295,14 @@ module _ (e : Example) (i : ℕ) (s : RowSettled) (b : Before e i s) (log : List
       ends-in (replay (graphIn e) (take (i + 1) (pairsIn e)) log) (λ row. closed (graphIn e) (take (i + 1) (pairsIn e)) row and cycles (graphIn e) row ways) met in
       refused-holds e 11 (i + 1) (omega arith) said (b .made)
       (λ c w class-enough work-enough.
-      cycle-answered (all-clear e (b .sent) (b .list) no-loop-before c w class-enough work-enough) i (i + 1) (b .within) (omega arith)
-      (log-cycle (formed e (b .sent) (b .list) no-loop-before) (sides-to e (b .sent) (b .list) no-loop-before (i + 1)) log (end .1) ways (both-true (end .2) .1))
-      (settles-no-cycle e (b .sent) (b .list) no-loop-before (sides-to e (b .sent) (b .list) no-loop-before i) (b .found))
-      (log-no-clash (formed e (b .sent) (b .list) no-loop-before) (sides-to e (b .sent) (b .list) no-loop-before (i + 1)) log (end .1) (both-true (end .2) .0)))
+      cycle-answered (all-clear e (b .sent) (b .list) no-loop-before c w class-enough work-enough) i
+      (record {
+        within = b .within;
+        cycle = log-cycle (formed e (b .sent) (b .list) no-loop-before) (sides-there (i + 1)) log (end .1) ways (both-true (end .2) .1);
+        no-clash = log-no-clash (formed e (b .sent) (b .list) no-loop-before) (sides-there (i + 1)) log (end .1) (both-true (end .2) .0);
+        no-clash-before = none-before .0;
+        no-cycle-before = none-before .1;
+      }))
 
 -- ---- the row by its certificate
 

@@ -17,7 +17,7 @@ use Rattle.graphs.specs.Log.{_and_, _or_, Join, given, children, childrenBeside
 use Rattle.graphs.proofs.Theorems.{class-table-only}
 use Rattle.table.specs.Table.{graphOf, choose, symbol-decide, named, namedFrom, headOf}
 use Rattle.table.specs.Layout.{canStand, after, atEnd, breakFrom}
-use Rattle.table.specs.Faults.{badKind, badLater, badTarget, odd, number, Fault, matchOrder}
+use Rattle.table.specs.Faults.{badKind, badWord, badTarget, odd, number, Fault, matchOrder}
 use Rattle.table.proofs.OneAnswer.{fault-once}
 use Rattle.matcher.specs.declared.answer.Matched.{Matched}
 use Rattle.matcher.specs.Match.{numberOf, placeOf, joinsOf, AcceptedWith, jobOf, MatchOf}
@@ -61,7 +61,7 @@ certificates =
 -- ---- the sheet
 
 tested : allPass examples certificates ≡ true
-unfolding certificates by-pair by-place down with-ranks decide ℕ-discrete kindOf isNode bit count nodes classes joins _and_ _or_ childrenBeside childrenOf grounded isTrue keyOf key renamed merged apartFrom apart ifTrue replayFrom replay allBelow holdsPairs sameNames agreesWith agrees closed ranksFall ranksFallAt ranked differFrom differ clashes isAmong isBelow leads cycles leadsDown loops choose symbol-decide named namedFrom headOf canStand after atEnd breakFrom badKind badLater badTarget pairsOf odd isNone repeatsAt goodTable goodList endsIn settled sameRow answers nothingMade makes settledBefore passes allPass
+unfolding certificates by-pair by-place down with-ranks decide ℕ-discrete kindOf isNode bit count nodes classes joins _and_ _or_ childrenBeside childrenOf grounded isTrue keyOf key renamed merged apartFrom apart ifTrue replayFrom replay allBelow holdsPairs sameNames agreesWith agrees closed ranksFall ranksFallAt ranked differFrom differ clashes isAmong isBelow leads cycles leadsDown loops choose symbol-decide named namedFrom headOf canStand after atEnd breakFrom badKind badWord badTarget pairsOf odd isNone repeatsAt goodTable goodList endsIn settled sameRow answers nothingMade makes settledBefore passes allPass
 tested = refl
 
 -- Each row of the sheet says what the definitions give.

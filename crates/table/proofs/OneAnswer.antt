@@ -35,10 +35,10 @@ module _ (job : Job) where
   fault-once row p q (loop-fault x a) (loop-fault y b) = refl
   fault-once row p q (list-fault a) (list-fault b) = refl
   fault-once row p q (address-fault a) (address-fault b) = ap (λ (i : ℕ). i + 1) (lowest-only a b)
-  fault-once row p q (clash-fault h c n m) (clash-fault k d v w) =
-      ap (λ (i : ℕ). i + 1) (neither-below (λ l. clash-before l c v) (λ l. clash-before l d n))
-  fault-once row p q (cycle-fault h c f n m) (cycle-fault k d g v w) =
-      ap (λ (i : ℕ). i + 1) (neither-below (λ l. cycle-before l c w) (λ l. cycle-before l d m))
+  fault-once row p q (clash-fault c) (clash-fault d) =
+      ap (λ (i : ℕ). i + 1) (neither-below (λ l. clash-before l (c .clash) (d .no-clash-before)) (λ l. clash-before l (d .clash) (c .no-clash-before)))
+  fault-once row p q (cycle-fault c) (cycle-fault d) =
+      ap (λ (i : ℕ). i + 1) (neither-below (λ l. cycle-before l (c .cycle) (d .no-cycle-before)) (λ l. cycle-before l (d .cycle) (c .no-cycle-before)))
 
 module _ (t : List ℕ) (c w : ℕ) where
   off-list : (list other : List ℕ) (row : Row) (p : ℕ) → leb (number row) 7 ≡ true → Fault (sent t list c w) row p → Fault (sent t other c w) row p
@@ -52,8 +52,8 @@ module _ (t : List ℕ) (c w : ℕ) where
   off-list list other row p h (loop-fault x s) = loop-fault x s
   off-list list other row p h (list-fault x) = never (cc)
   off-list list other row p h (address-fault x) = never (cc)
-  off-list list other row p h (clash-fault i d n m) = never (cc)
-  off-list list other row p h (cycle-fault i d f n m) = never (cc)
+  off-list list other row p h (clash-fault x) = never (cc)
+  off-list list other row p h (cycle-fault x) = never (cc)
 
   module _ (list other : List ℕ) where
     pub check-off-list : (a p : ℕ) → Answered number (Fault (sent t list c w)) checkOrder a p → Answered number (Fault (sent t other c w)) checkOrder a p

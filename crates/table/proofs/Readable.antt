@@ -22,7 +22,7 @@ use Rattle.words.proofs.KindLaws.{not-both, one-of, every-kind}
 use Rattle.graphs.proofs.Classes.{never}
 use Rattle.table.specs.Table.{wordAt, kindAt, contentAt, nodeKind, choose, named, degree, childOf}
 use Rattle.table.specs.Layout.{item}
-use Rattle.table.specs.Faults.{badKind, badLater, badTarget}
+use Rattle.table.specs.Faults.{badKind, badWord, badTarget}
 use Rattle.table.specs.Readable.{Readable}
 use Rattle.table.proofs.Leaves.{past-end}
 use Rattle.table.proofs.Blocks.{Arguments, CountAndArguments, Blocks, whole-begins}
@@ -40,7 +40,7 @@ inside-kind t x test fails e = go (leb (length t) x) refl
 
 module _ {t : List ℕ} (c : Readable t) where
   pub word-0 : wordAt t 0 ≡ 0
-  unfolding badLater
+  unfolding badWord
   word-0 = go (eqb (wordAt t 0) 0) refl
     where
       go : (b : Bool) → eqb (wordAt t 0) 0 ≡ b → wordAt t 0 ≡ 0
@@ -97,7 +97,7 @@ module _ {t : List ℕ} (c : Readable t) where
 
   -- what is above 0 and inside the table is a word
   is-word : (a : ℕ) → 0 < a → a < length t → kindAt t a ≡ NoWord → ⊥
-  unfolding badLater badKind
+  unfolding badWord badKind
   is-word zero h k e = absurd (omega arith)
   is-word (suc a) h k e = c .words (suc a) k (ap (λ (q : Kind). badKind q (contentAt t (suc a))) e)
 
@@ -131,7 +131,7 @@ module _ {t : List ℕ} (c : Readable t) where
   child-inside x i h = inside-kind t (childOf t x i) nodeKind refl (child-is-node x i h)
 
   pub degree-small : (x : ℕ) → degree t x ≤ mostArguments
-  unfolding degree choose badLater badKind
+  unfolding degree choose badWord badKind
   degree-small x = go (sameKind (kindAt t x) Function) refl
     where
       small-count : (a : ℕ) → 0 < a → a < length t → kindAt t a ≡ Count → contentAt t a ≤ mostArguments

@@ -13,7 +13,7 @@ use Rattle.words.specs.Word.{sameKind, isOneOf}
 use Rattle.words.specs.declared.kind.Kind.{Kind}
 use Rattle.words.specs.declared.kind.Kind.the-variants.{Variable, Pointer, Count, NoWord}
 use Rattle.answering.specs.Answers.{Lowest}
-use Rattle.graphs.specs.Graph.{Child, Steps}
+use Rattle.graphs.specs.Graph.{Symbols, Graph, Child, Steps}
 use Rattle.graphs.specs.Partition.{Pair, pairsOf, Clash, Cycle}
 use Rattle.table.specs.Table.{wordAt, kindAt, contentAt, nodeKind, graphOf}
 use Rattle.table.specs.Layout.{item, breakFrom}
@@ -31,16 +31,14 @@ sent t list class-room work-room = record { table = t; list = list; class-room =
 
 -- ---- one word
 
+-- what is wrong with a later word, by its kind and content
 unfoldable pub badKind : Kind → ℕ → Bool
 badKind k content = sameKind k NoWord || (sameKind k Count && (eqb content 0 || ltb mostArguments content))
 
-unfoldable pub badLater : ℕ → List ℕ → Bool
-badLater zero t = not (eqb (wordAt t 0) 0)
-badLater (suc a) t = badKind (kindAt t (suc a)) (contentAt t (suc a))
-
 -- "word 0 is not 0; a later tag is not in the table; a high bit is set; a count is 0 or over 255"
-abbrev pub badWord : List ℕ → ℕ → Bool
-badWord t a = badLater a t
+unfoldable pub badWord : List ℕ → ℕ → Bool
+badWord t zero = not (eqb (wordAt t 0) 0)
+badWord t (suc a) = badKind (kindAt t (suc a)) (contentAt t (suc a))
 
 -- "0, an address of n or more, a pointer or a count"
 unfoldable pub badTarget : List ℕ → ℕ → Bool
@@ -73,6 +71,21 @@ badSides t p = not (nodeKind (kindAt t (p .left)) && nodeKind (kindAt t (p .righ
 -- the pair at place i, from 0
 abbrev pub pairAt : List Pair → ℕ → Pair
 pairAt pairs i = getD pairs i (record { left = 0; right = 0 })
+
+-- "first k pairs have a clash, first k-1 have neither clash nor cycle", at k = i + 1
+pub record FirstClash {S : Symbols} (G : Graph S) (pairs : List Pair) (i : ℕ) : Type 0 where
+  pub within : i < length pairs
+  pub clash : Clash G (take (i + 1) pairs)
+  pub no-clash-before : Clash G (take i pairs) → ⊥
+  pub no-cycle-before : Cycle G (take i pairs) → ⊥
+
+-- "first k pairs have a cycle and no clash, first k-1 have neither", at k = i + 1
+pub record FirstCycle {S : Symbols} (G : Graph S) (pairs : List Pair) (i : ℕ) : Type 0 where
+  pub within : i < length pairs
+  pub cycle : Cycle G (take (i + 1) pairs)
+  pub no-clash : Clash G (take (i + 1) pairs) → ⊥
+  pub no-clash-before : Clash G (take i pairs) → ⊥
+  pub no-cycle-before : Cycle G (take i pairs) → ⊥
 
 -- ---- the table of numbers
 
@@ -115,19 +128,10 @@ pub data Fault (job : Job) : Row → ℕ → Type 0 where
   address-fault : {i : ℕ}
       → Lowest (λ k. (k < length (pairsOf (job .list))) × (badSides (job .table) (pairAt (pairsOf (job .list)) k) ≡ true)) i
       → Fault job ADDRESS (i + 1)
-  -- "first k pairs have a clash, first k-1 have neither clash nor cycle"
-  clash-fault : {i : ℕ} → i < length (pairsOf (job .list))
-      → Clash (graphOf (job .table)) (take (i + 1) (pairsOf (job .list)))
-      → (Clash (graphOf (job .table)) (take i (pairsOf (job .list))) → ⊥)
-      → (Cycle (graphOf (job .table)) (take i (pairsOf (job .list))) → ⊥)
-      → Fault job CLASH (i + 1)
-  -- "first k pairs have a cycle and no clash, first k-1 have neither"
-  cycle-fault : {i : ℕ} → i < length (pairsOf (job .list))
-      → Cycle (graphOf (job .table)) (take (i + 1) (pairsOf (job .list)))
-      → (Clash (graphOf (job .table)) (take (i + 1) (pairsOf (job .list))) → ⊥)
-      → (Clash (graphOf (job .table)) (take i (pairsOf (job .list))) → ⊥)
-      → (Cycle (graphOf (job .table)) (take i (pairsOf (job .list))) → ⊥)
-      → Fault job CYCLE (i + 1)
+  -- "k"
+  clash-fault : {i : ℕ} → FirstClash (graphOf (job .table)) (pairsOf (job .list)) i → Fault job CLASH (i + 1)
+  -- "k"
+  cycle-fault : {i : ℕ} → FirstCycle (graphOf (job .table)) (pairsOf (job .list)) i → Fault job CYCLE (i + 1)
 
 -- ---- orders
 
