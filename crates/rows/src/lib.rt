@@ -3,10 +3,12 @@
 //
 // Each contract is an equation on the whole row, so it says what changes and what stays. The definitions that they cite,
 // specs/LittleEndian.antt and specs/Placed.antt, and the laws on them, proofs/Laws.antt, are for callers too.
+mod lengths;
 mod little_endian;
 mod row16;
 mod row8;
 
+pub use lengths::least;
 pub use little_endian::read16;
 pub use little_endian::read32;
 pub use little_endian::write16;

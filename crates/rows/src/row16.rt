@@ -4,10 +4,10 @@ ghost use Prim.Native.Nat.{_<_, _≤_};
 ghost use lib.ListN.{length, getD};
 ghost use Rattle.rows.specs.Placed.{zeroed};
 
-// The entry of row at i.
+// The entry of row at i, wide enough to compute with. That it is below 65,536 is said too, so that no caller has to show it.
 pub fn at(row: &[u16], i: usize) -> usize
     requires { ⌜ i < length (now row) ⌝ }
-    ensures { λ r. ⌜ r ≡ getD (now (row .entry)) i 0 ⌝ }
+    ensures { λ r. ⌜ (r ≡ getD (now (row .entry)) i 0) × (r < 65536) ⌝ }
 {
     row[i] as usize
 }

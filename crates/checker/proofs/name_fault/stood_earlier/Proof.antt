@@ -29,7 +29,7 @@ at-requires c κs = omega arith
 loop-holds : tie.Need-loop-holds Inv-loop μ-loop
 loop-holds c =
     let p : tie.Start Inv-loop μ-loop = search needs in
-    walk-begins (p .pre .0 .chains) (c .before .start .ensures .0) (c .before .start .ensures .1) (c .at .ensures)
+    walk-begins (p .pre .0 .chains) (c .before .start .ensures .0) (c .before .start .ensures .1) (c .at .ensures .0)
 
 label-at-requires-2 : tie.Need-label-at-requires-2 Inv-loop μ-loop
 label-at-requires-2 c κs = omega (arith, c .before .loop .inv .kept .below)
@@ -52,14 +52,14 @@ loop-less : tie.Need-loop-less Inv-loop μ-loop
 loop-less c =
     let p : tie.Start Inv-loop μ-loop = search needs in
     let l : tie.At-loop Inv-loop μ-loop = search needs in
-    walk-falls (p .pre .0 .chains) (l .loop .inv) (c .before .before .before .before .before .loop-test .taken) (c .at2 .ensures)
+    walk-falls (p .pre .0 .chains) (l .loop .inv) (c .before .before .before .before .before .loop-test .taken) (c .at2 .ensures .0)
 
 loop-again : tie.Need-loop-again Inv-loop μ-loop
 loop-again c =
     let p : tie.Start Inv-loop μ-loop = search needs in
     let l : tie.At-loop Inv-loop μ-loop = search needs in
     walk-goes-on (p .pre .0 .chains) (l .loop .inv) (c .before .before .before .before .before .loop-test .taken)
-    (λ e. c .before .if1 .left (c .before .before .before .before .label-at2 .ensures ∙ e)) (c .at2 .ensures)
+    (λ e. c .before .if1 .left (c .before .before .before .before .label-at2 .ensures ∙ e)) (c .at2 .ensures .0)
 
 returns-2 : tie.Need-returns-2 Inv-loop μ-loop
 returns-2 c =

@@ -18,7 +18,7 @@ at-requires : tie.Need-at-requires
 at-requires c κs = search needs
 
 returns-2 : tie.Need-returns-2
-returns-2 c = open-read _ (c .at .ensures)
+returns-2 c = open-read _ (c .at .ensures .0)
 
 pub is-open-spec : {M : Type 1} → statement M
 is-open-spec = tie.close (tie.spec has-edges-requires returns at-requires returns-2)

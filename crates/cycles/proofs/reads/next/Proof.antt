@@ -31,7 +31,7 @@ returns c =
     let p : tie.Start = search needs in
     let asked : tie.After-child = search needs in
     let read : tie.After-at = search needs in
-    read .at .ensures ∙ ap (λ (x : ℕ). entry (p .args .class .now) x) (asked .child .ensures)
+    read .at .ensures .0 ∙ ap (λ (x : ℕ). entry (p .args .class .now) x) (asked .child .ensures)
 
 pub next-spec : {M : Type 1} → statement M
 next-spec = tie.close (tie.spec cast-t6 cast-child child-requires cast-at at-requires returns)

@@ -63,7 +63,7 @@ fresh : (c : tie.Else2 Inv-loop μ-loop)
     → mark (here (passed (c .before .before .before)) .loop .work) (c .before .before .before .next .result) ≡ 0
 fresh c =
     let a : tie.After-at Inv-loop μ-loop = search needs in
-    sym (a .at .ensures) ∙ c .if2 .left
+    sym (a .at .ensures .0) ∙ c .if2 .left
 
 abbrev all-passed : tie.After-finish Inv-loop μ-loop → tie.After-pass-over Inv-loop μ-loop
 all-passed c = c .before .before .before
@@ -136,7 +136,7 @@ returns c =
     let n : tie.After-next Inv-loop μ-loop = search needs in
     let a : tie.After-at Inv-loop μ-loop = search needs in
     stopped-later (grown-join (rooted (p .pre .1) (p .pre .2) (p .pre .3) (q .push .ensures) .grown) (o .loop .inv .1))
-    (closing (facing n) (λ e. c .if2 .taken (a .at .ensures ∙ e)))
+    (closing (facing n) (λ e. c .if2 .taken (a .at .ensures .0 ∙ e)))
 
 follow-requires : tie.Need-follow-requires Inv-loop μ-loop
 follow-requires c κs =
@@ -206,7 +206,7 @@ loop-less-2 c =
     let g : tie.After-finish Inv-loop μ-loop = search needs in
     let t : tie.Then3 Inv-loop μ-loop = search needs in
     let y : tie.After-end Inv-loop μ-loop = search needs in
-    coming-back (leaving g) (t .if3 .taken) (y .end .ensures) (c .at2 .ensures) .less
+    coming-back (leaving g) (t .if3 .taken) (y .end .ensures) (c .at2 .ensures .0) .less
 
 loop-again-2 : tie.Need-loop-again-2 Inv-loop μ-loop
 loop-again-2 c =
@@ -214,7 +214,7 @@ loop-again-2 c =
     let g : tie.After-finish Inv-loop μ-loop = search needs in
     let t : tie.Then3 Inv-loop μ-loop = search needs in
     let y : tie.After-end Inv-loop μ-loop = search needs in
-    let back : _ = coming-back (leaving g) (t .if3 .taken) (y .end .ensures) (c .at2 .ensures) in
+    let back : _ = coming-back (leaving g) (t .if3 .taken) (y .end .ensures) (c .at2 .ensures .0) in
     (back .going, grown-join (o .loop .inv .1) (back .grown))
 
 loop-less-3 : tie.Need-loop-less-3 Inv-loop μ-loop

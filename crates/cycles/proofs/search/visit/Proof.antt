@@ -28,7 +28,7 @@ returns-2 : tie.Need-returns-2
 returns-2 c =
     let p : tie.Start = search needs in
     let a : tie.After-at = search needs in
-    passed-over (p .args .class .now) (p .pre .1) (λ own. begun-safe (p .pre .1) (p .args .x) (p .pre .2) (omega (arith, a .at .ensures, c .if2 .taken)))
+    passed-over (p .args .class .now) (p .pre .1) (λ own. begun-safe (p .pre .1) (p .args .x) (p .pre .2) (omega (arith, a .at .ensures .0, c .if2 .taken)))
 
 at-requires-2 : tie.Need-at-requires-2
 at-requires-2 c κs = search needs
@@ -40,7 +40,7 @@ returns-3 : tie.Need-returns-3
 returns-3 c =
     let p : tie.Start = search needs in
     let a : tie.After-at2 = search needs in
-    passed-over (p .args .class .now) (p .pre .1) (λ own. absurd (c .if3 .taken (a .at2 .ensures ∙ own)))
+    passed-over (p .args .class .now) (p .pre .1) (λ own. absurd (c .if3 .taken (a .at2 .ensures .0 ∙ own)))
 
 from-root-requires : tie.Need-from-root-requires
 from-root-requires c κs = search needs

@@ -1,4 +1,5 @@
 -- `rows::row16::at` meets its contract: an entry of 16 bits fits. Assumes nothing.
+use mathlib.Core.Path.{refl}
 use native.Mathlib.Omega.{arith}
 use borrow.Author.Needs.{needs}
 use Rattle.rows.proofs.row16.at.Statement.{statement}
@@ -14,7 +15,7 @@ cast-result : tie.Need-cast-result
 cast-result c = omega (arith, c .shared-slice-known .given (c .before .args .i))
 
 returns : tie.Need-returns
-returns c = search needs
+returns c = (refl, omega (arith, c .shared-slice-known .given (c .before .args .i)))
 
 pub at-spec : {M : Type 1} → statement M
 at-spec = tie.close (tie.spec mul-result shared-slice-read-result cast-result returns)
