@@ -8,7 +8,7 @@
 --     a good file       body-inside, good-judged, judged-good, passed-good, good-number
 -- Assumes nothing.
 use mathlib.Core.Path.{_≡_, refl, sym, ap, ap₂, _∙_, subst}
-use mathlib.Core.Bool.{true, cond}
+use mathlib.Core.Bool.{cond}
 use mathlib.Core.Logic.{_⊎_, inl, inr}
 use mathlib.Core.List.{List}
 use Prim.Native.Nat.{ℕ, zero, suc, _+_, _-_, _*_, _≤_, _<_}
@@ -19,14 +19,13 @@ use lib.Dec.{eqb}
 use lib.ListN.{length}
 use borrow.Author.Count.{below-more}
 use Rattle.words.specs.Limits.{mostBytes, mostJobs}
-use Rattle.graphs.proofs.Classes.{never}
 use Rattle.answering.specs.Answers.{Lowest}
 use Rattle.answering.proofs.LowestLaws.{lowest-only}
 use Rattle.answering.proofs.Orders.{answered-only, passed-none}
 use Rattle.jobfile.specs.File.{bodySize, contentsEnd, countIn, offsetIn, wordsIn, pairsIn, bodyStart, GoodFile}
 use Rattle.jobfile.specs.Faults.{FileRow, FILE, CONTENTS, BODY, fileNumber, BodyFault, wrong-offset, past-end, bytes-follow, ReadFault, file-fault, contents-fault, body-fault, readOrder}
 use Rattle.jobfile.specs.Reader.{numberOf, placeOf, Judged, yieldedSizes, yieldedBodies, yieldedBody, inRow, Holds, ReadOf, BodiesOf, BodyOf}
-use Rattle.jobfile.specs.Steps.Reading.{passes, Opened, BodiesJudged}
+use Rattle.jobfile.specs.Steps.Reading.{Opened, BodiesJudged}
 use Rattle.jobfile.specs.declared.answers.FileAnswer.{FileAnswer}
 use Rattle.jobfile.specs.declared.answers.FileAnswer.the-variants.{Good, File, Contents, Body}
 use Rattle.jobfile.specs.declared.sizes.Sizes.{Sizes}
@@ -257,15 +256,9 @@ module _ {bytes : List ℕ} where
       let rows = passed-none fileNumber (ReadFault bytes) readOrder 0 0 refl refl judged .0 in
       all-good (not-contents (not-file (rows .0)) (rows .1 .0)) (λ p lowest. rows .1 .1 .0 p (body-fault lowest))
 
-is-good : (r : FileAnswer) → passes r ≡ true → r ≡ Good
-is-good Good e = refl
-is-good File e = never (cc)
-is-good Contents e = never (cc)
-is-good (Body entry) e = never (cc)
-
--- an answer that passes
-pub passed-good : {bytes : List ℕ} (r : FileAnswer) → Judged bytes r → passes r ≡ true → GoodFile bytes
-passed-good {bytes} r judged p = judged-good (subst (Judged bytes) (is-good r p) judged)
+-- an answer that is 0
+pub passed-good : {bytes : List ℕ} (r : FileAnswer) → Judged bytes r → r ≡ Good → GoodFile bytes
+passed-good {bytes} r judged p = judged-good (subst (Judged bytes) p judged)
 
 -- an answer of number 0
 pub good-number : (r : FileAnswer) → numberOf r ≡ 0 → r ≡ Good

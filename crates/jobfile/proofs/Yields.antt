@@ -1,34 +1,41 @@
--- What the reader yields, by its answer. In order: the row of sizes (`yield-sizes`, `yield-no-sizes`); the bodies
--- (`yield-bodies`, `yield-no-bodies`); the body of one job (`numbered-there`, `numbered-nowhere`,
--- `numbered-inside`, `yield-body`, `yield-no-body`).
+-- What the reader yields, by its answer. In order: what is told of a refusal (`NotGood`, `by-refusal`); the row of sizes
+-- (`yield-sizes`, `yield-no-sizes`); the bodies (`yield-bodies`, `yield-no-bodies`); the body of one job (`numbered-there`,
+-- `numbered-nowhere`, `numbered-inside`, `yield-body`, `yield-no-body`).
 -- Assumes nothing.
 use mathlib.Core.Path.{_≡_, refl, sym, ap, ap₂, _∙_}
-use mathlib.Core.Bool.{Bool, true, false, cond}
+use mathlib.Core.Bool.{Bool, cond}
 use mathlib.Core.Logic.{_⊎_, inl, inr}
-use mathlib.Core.List.{List, [], _++_}
+use mathlib.Core.List.{List, [], _∷_, _++_}
 use Prim.Native.Nat.{ℕ, zero, suc, _+_, _-_, _*_, _≤_, _<_}
 use native.Mathlib.Omega.{arith}
+use types.Run.{OneOf, miss}
+use denote.Enum.Declared.{tagOf}
 use lib.ListN.{length, take, drop, replicate, length-replicate, replicate-append-replicate}
 use lib.Seq.{drop-at}
 use borrow.Author.Tests.{lt-ltb, le-ltb}
 use Rattle.words.specs.Limits.{mostJobs, mostSizes}
-use Rattle.graphs.proofs.Classes.{never}
 use Rattle.jobfile.specs.File.{bodySize, contentsEnd, countIn, offsetIn, wordsIn, pairsIn, bodyStart, bodyIn, sizesIn, GoodFile}
 use Rattle.jobfile.specs.Reader.{Judged, numberedBody, yieldedSizes, yieldedBodies, yieldedBody, inRow, Holds, BodiesOf, BodyOf}
-use Rattle.jobfile.specs.Steps.Reading.{passes}
+use Rattle.jobfile.specs.declared.answers.EntryNumber.{EntryNumber}
 use Rattle.jobfile.specs.declared.answers.FileAnswer.{FileAnswer}
 use Rattle.jobfile.specs.declared.answers.FileAnswer.the-variants.{Good, File, Contents, Body}
 use Rattle.jobfile.specs.declared.sizes.Sizes.{Sizes}
+use Rattle.jobfile.proofs.answers.FileAnswer.{the-type}
 use Rattle.jobfile.proofs.NumberLaws.{to-the-end}
 use Rattle.jobfile.proofs.FileLaws.{length-sizesFrom, next-start}
 use Rattle.jobfile.proofs.ReaderLaws.{body-inside}
 
--- by the answer: what is yielded of a good file, and what of a refused one
-by-answer : {A : Type 0} (yielded : FileAnswer → A) (r : FileAnswer) → passes r ≡ true → yielded r ≡ yielded Good
-by-answer yielded Good e = refl
-by-answer yielded File e = never (cc)
-by-answer yielded Contents e = never (cc)
-by-answer yielded (Body entry) e = never (cc)
+-- what is told where the branch for `Good` is not taken: the answer is case 1, 2 or 3, counted from 0
+abbrev pub NotGood : FileAnswer → Type 0
+NotGood r = OneOf (1 ∷ 2 ∷ 3 ∷ []) (tagOf the-type r)
+
+-- what all refusals yield is then yielded
+by-refusal : {A : Type 0} {x : A} (yielded : FileAnswer → A) (r : FileAnswer) → NotGood r
+    → yielded File ≡ x → yielded Contents ≡ x → ((entry : EntryNumber) → yielded (Body entry) ≡ x) → yielded r ≡ x
+by-refusal yielded Good told f c b = absurd (miss (1 ∷ 2 ∷ 3 ∷ []) 0 tt told)
+by-refusal yielded File told f c b = f
+by-refusal yielded Contents told f c b = c
+by-refusal yielded (Body entry) told f c b = b entry
 
 -- ---- the row of sizes
 
@@ -39,12 +46,12 @@ drop-zeros k n h =
     ∙ ap (drop k) (sym (replicate-append-replicate k (n - k) 0))
     ∙ drop-at {A = ℕ} (replicate k 0) (replicate (n - k) 0) k (length-replicate k 0)
 
-pub yield-sizes : (bytes : List ℕ) (r : FileAnswer) {sizes : Sizes} → passes r ≡ true → countIn bytes ≤ mostJobs
+pub yield-sizes : (bytes : List ℕ) (r : FileAnswer) {sizes : Sizes} → r ≡ Good → countIn bytes ≤ mostJobs
     → sizes .row ≡ sizesIn bytes ++ drop (sizes .count) (replicate mostSizes 0) → sizes .count ≡ 2 * countIn bytes → Holds sizes (yieldedSizes r bytes)
 unfolding inRow
 yield-sizes bytes r {sizes} p few row count =
     let size : sizes .count ≡ length (sizesIn bytes) = count ∙ sym (length-sizesFrom (countIn bytes) 0 bytes) in
-    let same : yieldedSizes r bytes ≡ sizesIn bytes = by-answer (λ q. yieldedSizes q bytes) r p in
+    let same : yieldedSizes r bytes ≡ sizesIn bytes = ap (λ (q : FileAnswer). yieldedSizes q bytes) p in
     let small : length (sizesIn bytes) ≤ mostSizes = omega arith in
     record {
       numbers =
@@ -55,28 +62,25 @@ yield-sizes bytes r {sizes} p few row count =
       counted = size ∙ ap length (sym same);
     }
 
-pub yield-no-sizes : (bytes : List ℕ) (r : FileAnswer) {sizes : Sizes} → passes r ≡ false → sizes .row ≡ replicate mostSizes 0 → sizes .count ≡ 0 → Holds sizes (yieldedSizes r bytes)
+pub yield-no-sizes : (bytes : List ℕ) (r : FileAnswer) {sizes : Sizes} → NotGood r → sizes .row ≡ replicate mostSizes 0 → sizes .count ≡ 0 → Holds sizes (yieldedSizes r bytes)
 unfolding inRow
-yield-no-sizes bytes Good p row count = never (cc)
-yield-no-sizes bytes File p row count = record { numbers = row; counted = count }
-yield-no-sizes bytes Contents p row count = record { numbers = row; counted = count }
-yield-no-sizes bytes (Body entry) p row count = record { numbers = row; counted = count }
+yield-no-sizes bytes r told row count =
+    let none : yieldedSizes r bytes ≡ [] = by-refusal (λ q. yieldedSizes q bytes) r told refl refl (λ entry. refl) in
+    record { numbers = row ∙ ap inRow (sym none); counted = count ∙ ap length (sym none) }
 
 -- ---- the bodies
 
-pub yield-bodies : {bytes : List ℕ} (r : FileAnswer) (start : ℕ) → Judged bytes r → passes r ≡ true → start ≡ contentsEnd (countIn bytes)
+pub yield-bodies : {bytes : List ℕ} (r : FileAnswer) (start : ℕ) → Judged bytes r → r ≡ Good → start ≡ contentsEnd (countIn bytes)
     → BodiesOf bytes (take (length bytes - start) (drop start bytes))
 yield-bodies {bytes} r start judged p e = record {
   answer = r;
   judged = judged;
-  yielded = to-the-end start bytes ∙ ap (λ (i : ℕ). drop i bytes) e ∙ sym (by-answer (λ q. yieldedBodies q bytes) r p);
+  yielded = to-the-end start bytes ∙ ap (λ (i : ℕ). drop i bytes) e ∙ sym (ap (λ (q : FileAnswer). yieldedBodies q bytes) p);
 }
 
-pub yield-no-bodies : {bytes : List ℕ} (r : FileAnswer) → Judged bytes r → passes r ≡ false → BodiesOf bytes []
-yield-no-bodies Good judged p = never (cc)
-yield-no-bodies File judged p = record { answer = File; judged = judged; yielded = refl }
-yield-no-bodies Contents judged p = record { answer = Contents; judged = judged; yielded = refl }
-yield-no-bodies (Body entry) judged p = record { answer = Body entry; judged = judged; yielded = refl }
+pub yield-no-bodies : {bytes : List ℕ} (r : FileAnswer) → Judged bytes r → NotGood r → BodiesOf bytes []
+yield-no-bodies {bytes} r judged told =
+    record { answer = r; judged = judged; yielded = sym (by-refusal (λ q. yieldedBodies q bytes) r told refl refl (λ entry. refl)) }
 
 -- ---- the body of one job
 
@@ -105,11 +109,9 @@ numbered-inside {bytes} job start size good l h es ez =
     let begins : start ≡ bodyStart bytes k = es ∙ good .offsets k (omega arith) in
     omega (arith, next-start bytes k begins refl refl, body-inside good k (omega arith))
 
-pub yield-body : {bytes part : List ℕ} (r : FileAnswer) (job : ℕ) → Judged bytes r → passes r ≡ true → part ≡ numberedBody job bytes → BodyOf bytes job part
-yield-body {bytes} r job judged p e = record { answer = r; judged = judged; yielded = e ∙ sym (by-answer (λ q. yieldedBody q bytes job) r p) }
+pub yield-body : {bytes part : List ℕ} (r : FileAnswer) (job : ℕ) → Judged bytes r → r ≡ Good → part ≡ numberedBody job bytes → BodyOf bytes job part
+yield-body {bytes} r job judged p e = record { answer = r; judged = judged; yielded = e ∙ sym (ap (λ (q : FileAnswer). yieldedBody q bytes job) p) }
 
-pub yield-no-body : {bytes : List ℕ} (r : FileAnswer) (job : ℕ) → Judged bytes r → passes r ≡ false → BodyOf bytes job []
-yield-no-body Good job judged p = never (cc)
-yield-no-body File job judged p = record { answer = File; judged = judged; yielded = refl }
-yield-no-body Contents job judged p = record { answer = Contents; judged = judged; yielded = refl }
-yield-no-body (Body entry) job judged p = record { answer = Body entry; judged = judged; yielded = refl }
+pub yield-no-body : {bytes : List ℕ} (r : FileAnswer) (job : ℕ) → Judged bytes r → NotGood r → BodyOf bytes job []
+yield-no-body {bytes} r job judged told =
+    record { answer = r; judged = judged; yielded = sym (by-refusal (λ q. yieldedBody q bytes job) r told refl refl (λ entry. refl)) }

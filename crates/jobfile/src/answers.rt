@@ -1,7 +1,6 @@
 // The answers of the reader and of the writer.
 ghost use mathlib.Core.Path.{_≡_};
 ghost use Rattle.jobfile.specs.Reader.{numberOf as fileNumber, placeOf as filePlace};
-ghost use Rattle.jobfile.specs.Steps.Reading.{passes};
 ghost use Rattle.jobfile.specs.Writer.{numberOf as writeNumber};
 
 // The number of an entry of the contents, from 1; J + 1 for what follows the last body.
@@ -22,18 +21,6 @@ pub enum WriteAnswer {
     Body,
     File,
     Room,
-}
-
-// Whether the answer is 0.
-pub(crate) fn is_good(answer: FileAnswer) -> bool
-    ensures { λ r. ⌜ r ≡ passes answer ⌝ }
-{
-    match answer {
-        FileAnswer::Good => true,
-        FileAnswer::File => false,
-        FileAnswer::Contents => false,
-        FileAnswer::Body(_) => false,
-    }
 }
 
 // The number of a reader's answer, as document 01 has it.

@@ -6,7 +6,6 @@ ghost use Prim.Native.Nat.{_*_, _≤_, _<_};
 ghost use lib.ListN.{length, getD, drop};
 ghost use Rattle.jobfile.specs.File.{contentsEnd, countIn, sizesIn, GoodFile};
 ghost use Rattle.jobfile.specs.Reader.{numberedBody, yieldedSizes, Holds, Judged, ReadOf, BodiesOf, BodyOf};
-use crate::answers;
 use crate::answers::FileAnswer;
 use crate::contents;
 use crate::sizes::Sizes;
@@ -44,7 +43,7 @@ fn sizes_of(file: &[u8], answer: FileAnswer) -> Sizes
     ensures { λ r. ⌜ Holds r (yieldedSizes answer (now (file .entry))) ⌝ }
 {
     let mut row = [0u16; MOST_SIZES];
-    if answers::is_good(answer) {
+    if let FileAnswer::Good = answer {
         let count = 2 * contents::number(file, 0);
         put_sizes(file, count, &mut row);
         return Sizes { row, count };
@@ -66,7 +65,7 @@ pub fn bodies(file: &[u8]) -> &[u8]
     ensures { λ r. ⌜ BodiesOf (now (file .entry)) (now r) ⌝ }
 {
     let answer = contents::judge(file);
-    if answers::is_good(answer) {
+    if let FileAnswer::Good = answer {
         let start = 2 + 6 * contents::number(file, 0);
         return &file[start..];
     }
@@ -94,7 +93,7 @@ pub fn body(file: &[u8], job: usize) -> &[u8]
     ensures { λ r. ⌜ BodyOf (now (file .entry)) job (now r) ⌝ }
 {
     let answer = contents::judge(file);
-    if answers::is_good(answer) {
+    if let FileAnswer::Good = answer {
         return numbered_body(file, job);
     }
     &file[0..0]

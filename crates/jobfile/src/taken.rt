@@ -2,21 +2,14 @@
 //
 // Either copy stops where the body ends or the room does, so no length is wrong: whoever wants n words lends room for n.
 ghost use mathlib.Core.Path.{_≡_};
-ghost use Prim.Native.Nat.{_≤_, min};
 ghost use Rattle.jobfile.specs.Body.{taken};
-
-fn least(a: usize, b: usize) -> usize
-    ensures { λ r. ⌜ (r ≡ min a b) × (r ≤ a) × (r ≤ b) ⌝ }
-{
-    if a < b { a } else { b }
-}
 
 // Copies the words at the front of body over the front of into: as many as there are, and as have room. The entries after
 // them stay.
 pub fn take_words(body: &[u8], into: &mut [u32])
     ensures { λ _. ⌜ now (into .exit) ≡ taken 4 (now (body .entry)) (now (into .entry)) ⌝ }
 {
-    let count = least(into.len(), body.len() / 4);
+    let count = rows::least(into.len(), body.len() / 4);
     let mut i = 0;
     while i < count {
         into[i] = rows::read32(body, 4 * i);
@@ -29,7 +22,7 @@ pub fn take_words(body: &[u8], into: &mut [u32])
 pub fn take_pairs(pairs: &[u8], into: &mut [u16])
     ensures { λ _. ⌜ now (into .exit) ≡ taken 2 (now (pairs .entry)) (now (into .entry)) ⌝ }
 {
-    let count = least(into.len(), pairs.len() / 2);
+    let count = rows::least(into.len(), pairs.len() / 2);
     let mut i = 0;
     while i < count {
         into[i] = rows::read16(pairs, 2 * i);

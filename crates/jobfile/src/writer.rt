@@ -3,7 +3,7 @@
 ghost use mathlib.Core.Path.{_≡_};
 ghost use mathlib.Core.List.{_++_};
 ghost use Prim.Native.Nat.{_+_, _≤_, _<_};
-ghost use lib.ListN.{length, getD, drop};
+ghost use lib.ListN.{length, drop};
 ghost use Rattle.rows.specs.LittleEndian.{bytesOf};
 ghost use Rattle.rows.specs.Placed.{placed};
 ghost use Rattle.words.specs.Limits.{mostSizes};
@@ -14,14 +14,6 @@ use crate::answers::WriteAnswer;
 use words::limits::MOST_BYTES;
 use words::limits::MOST_SIZES;
 
-// A size, wide enough to compute with. That it is below 65,536 is said too, so that no caller has to show it.
-fn size(sizes: &[u16], i: usize) -> usize
-    requires { ⌜ i < length (now sizes) ⌝ }
-    ensures { λ r. ⌜ (r ≡ getD (now (sizes .entry)) i 0) × (r < 65536) ⌝ }
-{
-    sizes[i] as usize
-}
-
 // How many bytes the bodies of these sizes have.
 fn bodies_size(sizes: &[u16]) -> usize
     requires { ⌜ length (now sizes) ≤ mostSizes ⌝ }
@@ -30,7 +22,7 @@ fn bodies_size(sizes: &[u16]) -> usize
     let mut sum = 0;
     let mut i = 0;
     while i < sizes.len() {
-        sum += 4 * size(sizes, i);
+        sum += 4 * rows::at(sizes, i);
         i += 1;
     }
     sum
@@ -56,8 +48,8 @@ fn put_contents(sizes: &[u16], file: &mut [u8])
     let mut start = 2 + 6 * jobs;
     let mut k = 0;
     while k < jobs {
-        let n = size(sizes, 2 * k);
-        let p = size(sizes, 2 * k + 1);
+        let n = rows::at(sizes, 2 * k);
+        let p = rows::at(sizes, 2 * k + 1);
         put_entry(file, 2 + 6 * k, start, n, p);
         start += 4 * n + 4 * p;
         k += 1;

@@ -1,6 +1,5 @@
 -- What the reader's own functions promise each other. Assumes nothing.
 use mathlib.Core.Path.{_≡_}
-use mathlib.Core.Bool.{Bool, true, false}
 use mathlib.Core.List.{List, [], _∷_}
 use Prim.Native.Nat.{ℕ, _-_, _≤_}
 use lib.ListN.{length}
@@ -9,14 +8,7 @@ use Rattle.answering.specs.Answers.{Answered}
 use Rattle.jobfile.specs.File.{contentsEnd, countIn}
 use Rattle.jobfile.specs.Faults.{BODY, fileNumber, ReadFault}
 use Rattle.jobfile.specs.declared.answers.FileAnswer.{FileAnswer}
-use Rattle.jobfile.specs.declared.answers.FileAnswer.the-variants.{Good, File, Contents, Body}
 use Rattle.jobfile.specs.Reader.{numberOf, placeOf}
-
-abbrev pub passes : FileAnswer → Bool
-passes Good = true
-passes File = false
-passes Contents = false
-passes (Body entry) = false
 
 -- the count was read: neither 12 nor 13 applies
 pub record Opened (bytes : List ℕ) (jobs : ℕ) : Type 0 where

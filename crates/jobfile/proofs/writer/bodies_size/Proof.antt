@@ -17,8 +17,8 @@ abbrev μ-loop : tie.MeasureT-loop
 loop-holds : tie.Need-loop-holds Inv-loop μ-loop
 loop-holds c = summed-none _
 
-size-requires : tie.Need-size-requires Inv-loop μ-loop
-size-requires c κs = omega arith
+at-requires : tie.Need-at-requires Inv-loop μ-loop
+at-requires c κs = omega arith
 
 mul-sum : tie.Need-mul-sum Inv-loop μ-loop
 mul-sum c = omega arith
@@ -35,7 +35,7 @@ loop-less : tie.Need-loop-less Inv-loop μ-loop
 loop-less c = omega arith
 
 loop-again : tie.Need-loop-again Inv-loop μ-loop
-loop-again c = summed-more (c .before .before .loop .inv) (c .before .loop-test .taken) (c .size .ensures .0) (c .size .ensures .1)
+loop-again c = summed-more (c .before .before .loop .inv) (c .before .loop-test .taken) (c .at .ensures .0) (c .at .ensures .1)
 
 returns : tie.Need-returns Inv-loop μ-loop
 returns c = summed-all (c .before .loop .inv) (c .loop-test .left)
@@ -47,7 +47,7 @@ bodies-size-spec =
     Inv-loop
     μ-loop
     loop-holds
-    size-requires
+    at-requires
     mul-sum
     add-sum
     add-i

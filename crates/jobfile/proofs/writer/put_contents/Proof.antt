@@ -29,20 +29,20 @@ add-start c = omega arith
 loop-holds : tie.Need-loop-holds Inv-loop μ-loop
 loop-holds c = writing-none (c .before .before .before .before .before .before .pre) (c .before .before .write16 .ensures)
 
-mul-size : tie.Need-mul-size Inv-loop μ-loop
-mul-size c = omega arith
+mul-at : tie.Need-mul-at Inv-loop μ-loop
+mul-at c = omega arith
 
-size-requires : tie.Need-size-requires Inv-loop μ-loop
-size-requires c κs = omega arith
+at-requires : tie.Need-at-requires Inv-loop μ-loop
+at-requires c κs = omega arith
 
-mul-size-2 : tie.Need-mul-size-2 Inv-loop μ-loop
-mul-size-2 c = omega arith
+mul-at-2 : tie.Need-mul-at-2 Inv-loop μ-loop
+mul-at-2 c = omega arith
 
-add-size : tie.Need-add-size Inv-loop μ-loop
-add-size c = omega arith
+add-at : tie.Need-add-at Inv-loop μ-loop
+add-at c = omega arith
 
-size-requires-2 : tie.Need-size-requires-2 Inv-loop μ-loop
-size-requires-2 c κs = omega arith
+at-requires-2 : tie.Need-at-requires-2 Inv-loop μ-loop
+at-requires-2 c κs = omega arith
 
 mul-put-entry : tie.Need-mul-put-entry Inv-loop μ-loop
 mul-put-entry c = omega arith
@@ -53,7 +53,7 @@ add-put-entry c = omega arith
 put-entry-requires : tie.Need-put-entry-requires Inv-loop μ-loop
 put-entry-requires c κs =
     let w = c .before .before .before .before .loop .inv in
-    (omega (arith, w .built .room, w .built .same-length, c .before .before .before .loop-test .taken), omega arith, omega (arith, c .before .before .size .ensures), omega (arith, c .before .size2 .ensures))
+    (omega (arith, w .built .room, w .built .same-length, c .before .before .before .loop-test .taken), omega arith, omega (arith, c .before .before .at .ensures), omega (arith, c .before .at2 .ensures))
 
 mul-start-2 : tie.Need-mul-start-2 Inv-loop μ-loop
 mul-start-2 c = omega arith
@@ -75,7 +75,7 @@ loop-less c = omega arith
 
 loop-again : tie.Need-loop-again Inv-loop μ-loop
 loop-again c =
-    let m = writing-more (c .before .before .before .before .before .before .before .loop .inv) (c .before .before .before .before .before .before .loop-test .taken) (c .before .before .before .before .before .size .ensures .0) (c .before .before .before .before .size2 .ensures .0) in
+    let m = writing-more (c .before .before .before .before .before .before .before .loop .inv) (c .before .before .before .before .before .before .loop-test .taken) (c .before .before .before .before .before .at .ensures .0) (c .before .before .before .before .at2 .ensures .0) in
     rw (c .before .before .put-entry .ensures) m
 
 same-length : tie.Need-same-length Inv-loop μ-loop
@@ -95,11 +95,11 @@ put-contents-spec =
     mul-start
     add-start
     loop-holds
-    mul-size
-    size-requires
-    mul-size-2
-    add-size
-    size-requires-2
+    mul-at
+    at-requires
+    mul-at-2
+    add-at
+    at-requires-2
     mul-put-entry
     add-put-entry
     put-entry-requires
