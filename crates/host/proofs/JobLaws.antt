@@ -1,6 +1,6 @@
 -- A job that the host call found. In order: its words and addresses, as they are copied out of its body (`part-size`,
 -- `words-copied`, `pairs-copied`); the match's answer as the host call's (`host-lent`); the rows
--- that are lent for it (`lent-fronts`). Assumes nothing.
+-- that are lent for it (`rows-fit`, `lent-fronts`). Assumes nothing.
 use mathlib.Core.Path.{_≡_, refl, sym, ap, _∙_, subst}
 use mathlib.Core.Bool.{true, false, not}
 use mathlib.Core.Logic.{_⊎_, inr, ⊎-elim}
@@ -190,8 +190,13 @@ module _ {bytes : List ℕ} {job : ℕ} {table list class work room : List ℕ} 
 
 -- ---- the rows that are lent
 
+-- rows of one size, and a work row of four times that, have room for a table of no more words
+pub rows-fit : {bytes : List ℕ} {job n p room size list : ℕ} → JobFound bytes job n p room × (list ≡ listRoom) × (n ≤ size)
+    → JobFound bytes job n p room × RowsFit n size list size (4 * size)
+rows-fit (found, lists, fits) = (found, (fits, lists, fits, omega arith))
+
 -- the fronts of rows with room for it are just as long as it wants them, whatever the rows' own lengths
-pub lent-fronts : {bytes : List ℕ} {job n p entries : ℕ} (table list class work : List ℕ) {room : List ℕ} → JobFound bytes job n p (length room) → RowsFit n table list class work
+pub lent-fronts : {bytes : List ℕ} {job n p entries : ℕ} (table list class work : List ℕ) {room : List ℕ} → JobFound bytes job n p (length room) → RowsFit n (length table) (length list) (length class) (length work)
     → (entries ≡ min (2 * p) (length list)) × (entries ≤ 2 * p) × (entries ≤ length list) → RowsOfJob bytes job (take n table) (take entries list) (take n class) (take (4 * n) work) room
 lent-fronts {p = p} {entries} table list class work o (tables, lists, classes, works) (e, there, inside) =
     let long : length (take entries list) ≡ entries = length-take-le entries list inside in

@@ -2,6 +2,7 @@
 ghost use mathlib.Core.Path.{_≡_};
 ghost use Rattle.checker.specs.Check.{numberOf, placeOf, joinsOf};
 ghost use Rattle.host.specs.AsOne.{asOne};
+use crate::packed;
 use checker::answer;
 use checker::answer::Checked;
 
@@ -9,5 +10,5 @@ use checker::answer::Checked;
 pub fn as_one(answer: Checked) -> u64
     ensures { λ r. ⌜ r ≡ asOne (numberOf answer) (placeOf answer) (joinsOf answer) ⌝ }
 {
-    answer::number(answer) as u64 + 65536 * answer::place(answer) as u64
+    packed::as_one(answer::number(answer), answer::place(answer), 0)
 }

@@ -1,7 +1,6 @@
 // Which job the host call is about, or by which of 12, 13, 14, 15, 1 and 2 it is refused.
-ghost use mathlib.Core.Path.{_≡_};
 ghost use Prim.Native.Nat.{_*_, _≤_, _<_};
-ghost use lib.ListN.{length, getD};
+ghost use lib.ListN.{length};
 ghost use Rattle.words.specs.Limits.{mostSizes};
 ghost use Rattle.host.specs.Steps.Choice.{Sized, Numbered, Choice};
 use jobfile::answers;
@@ -11,14 +10,6 @@ use words::limits::MOST_WORDS;
 pub(crate) enum Chosen {
     Refused(u16),
     Found(usize, usize),
-}
-
-// A size, wide enough to compute with. That it is below 65,536 is said too, so that no caller has to show it.
-fn size(sizes: &[u16], i: usize) -> usize
-    requires { ⌜ i < length (now sizes) ⌝ }
-    ensures { λ r. ⌜ (r ≡ getD (now (sizes .entry)) i 0) × (r < 65536) ⌝ }
-{
-    sizes[i] as usize
 }
 
 // By the job's n, and the length of the room.
@@ -49,8 +40,8 @@ fn numbered(sizes: &[u16], jobs: usize, job: usize, room: usize) -> Chosen
     if jobs < job {
         return Chosen::Refused(15);
     }
-    let n = size(sizes, 2 * (job - 1));
-    let p = size(sizes, 2 * (job - 1) + 1);
+    let n = rows::at(sizes, 2 * (job - 1));
+    let p = rows::at(sizes, 2 * (job - 1) + 1);
     sized(n, p, room)
 }
 

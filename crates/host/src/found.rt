@@ -1,7 +1,7 @@
 // A job that the host call found, in rows of the size that it has. Rows are new at each call, so nothing of the last one is
 // there, and a new row is cleared: rows for the largest table would cost a small job more than its match.
 ghost use mathlib.Core.Path.{_≡_};
-ghost use Prim.Native.Nat.{_≤_, min};
+ghost use Prim.Native.Nat.{_≤_};
 ghost use lib.ListN.{length};
 ghost use Rattle.words.specs.Limits.{mostWords};
 ghost use Rattle.host.specs.Host.{HostOf};
@@ -14,12 +14,6 @@ use words::limits::MOST_WORDS;
 const SMALL: usize = 64;
 
 const MIDDLE: usize = 512;
-
-fn least(a: usize, b: usize) -> usize
-    ensures { λ r. ⌜ (r ≡ min a b) × (r ≤ a) × (r ≤ b) ⌝ }
-{
-    if a < b { a } else { b }
-}
 
 // Matches the job of n words and p pairs in the fronts of rows that have room for it. The row for its list has 514 entries,
 // one pair more than a list may hold, so that a longer list is refused too.
@@ -34,10 +28,10 @@ fn match_in(
     work: &mut [u16],
     room: &mut [u8],
 ) -> u16
-    requires { ⌜ JobFound (now file) job n p (length (now room)) × RowsFit n (now table) (now list) (now class) (now work) ⌝ }
+    requires { ⌜ JobFound (now file) job n p (length (now room)) × RowsFit n (length (now table)) (length (now list)) (length (now class)) (length (now work)) ⌝ }
     ensures { λ r. ⌜ HostOf (now (file .entry)) job (now (room .entry)) r (now (room .exit)) ⌝ }
 {
-    let entries = least(2 * p, list.len());
+    let entries = rows::least(2 * p, list.len());
     job::match_lent(
         file,
         job,

@@ -5,6 +5,7 @@ mod choice;
 mod found;
 mod job;
 pub mod matched;
+mod packed;
 mod report;
 mod sizes;
 

@@ -2,6 +2,7 @@
 ghost use mathlib.Core.Path.{_≡_};
 ghost use Rattle.matcher.specs.Match.{numberOf, placeOf, joinsOf};
 ghost use Rattle.host.specs.AsOne.{asOne};
+use crate::packed;
 use matcher::answer;
 use matcher::answer::Matched;
 
@@ -9,8 +10,8 @@ use matcher::answer::Matched;
 pub fn as_one(answer: Matched) -> u64
     ensures { λ r. ⌜ r ≡ asOne (numberOf answer) (placeOf answer) (joinsOf answer) ⌝ }
 {
-    let number = answer::number(answer) as u64;
-    let place = answer::place(answer) as u64;
-    let joins = answer::joins(answer) as u64;
-    number + 65536 * place + 4294967296 * joins
+    let number = answer::number(answer);
+    let place = answer::place(answer);
+    let joins = answer::joins(answer);
+    packed::as_one(number, place, joins)
 }

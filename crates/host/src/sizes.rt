@@ -1,5 +1,6 @@
 // The sizes of a job file, for a host that did not write it.
 ghost use Rattle.host.specs.Sizes.{SizesOf};
+use crate::packed;
 use jobfile::answers;
 
 // Answer + 65,536 x place + 4,294,967,296 x J, and on 0 the file's 2J sizes over the front of the row.
@@ -9,13 +10,13 @@ pub fn read_sizes(file: &[u8], sizes: &mut [u16]) -> u64
     let answer = jobfile::judge(file);
     let number = answers::file_number(answer);
     if number != 0 {
-        return number as u64 + 65536 * answers::file_place(answer) as u64;
+        return packed::as_one(number, answers::file_place(answer), 0);
     }
     let jobs = rows::read16(file, 0);
     let count = 2 * jobs as usize;
     if sizes.len() < count {
-        return 2;
+        return packed::as_one(2, 0, 0);
     }
     jobfile::put_sizes(file, count, sizes);
-    4294967296 * jobs as u64
+    packed::as_one(0, 0, jobs)
 }

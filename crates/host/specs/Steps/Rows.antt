@@ -18,9 +18,9 @@ middleRow = 512
 abbrev pub listRoom : ℕ
 listRoom = 514
 
--- rows with room in their fronts for a table of n words, its class entries and its work, and a row for its list
-abbrev pub RowsFit : ℕ → List ℕ → List ℕ → List ℕ → List ℕ → Type 0
-RowsFit n table list class work = (n ≤ length table) × (length list ≡ listRoom) × (n ≤ length class) × (4 * n ≤ length work)
+-- rows of these lengths have room in their fronts for a table of n words, its class entries and its work; a list has its own room
+abbrev pub RowsFit : ℕ → ℕ → ℕ → ℕ → ℕ → Type 0
+RowsFit n table list class work = (n ≤ table) × (list ≡ listRoom) × (n ≤ class) × (4 * n ≤ work)
 
 -- rows for the job's words, and for its addresses or the first of them
 pub record Copyable (bytes : List ℕ) (job : ℕ) (table list : List ℕ) : Type 0 where

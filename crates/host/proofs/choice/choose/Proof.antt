@@ -7,20 +7,11 @@ use Rattle.host.proofs.ChoiceLaws.{early-file, chosen-numbered}
 use Rattle.host.proofs.choice.choose.Statement.{statement}
 use Rattle.host.proofs.choice.choose.Tie as tie
 
-read-requires : tie.Need-read-requires
-read-requires c κs = search needs
-
-file-number-requires : tie.Need-file-number-requires
-file-number-requires c κs = search needs
-
 returns : tie.Need-returns
 returns c =
     let s : tie.Start = search needs in
     let k : tie.After-read = search needs in
     early-file (s .args .file .now) (s .args .job) (s .args .room .now) (k .read .result .answer) (k .read .ensures .judged) (c .before .file-number .ensures) (c .if1 .taken)
-
-slice-aggregate-numbered : tie.Need-slice-aggregate-numbered
-slice-aggregate-numbered c = search needs
 
 numbered-requires : tie.Need-numbered-requires
 numbered-requires c κs =
@@ -38,10 +29,4 @@ returns-2 c =
 pub choose-spec : {M : Type 1} → statement M
 choose-spec =
     tie.close
-    (tie.spec
-    read-requires
-    file-number-requires
-    returns
-    slice-aggregate-numbered
-    numbered-requires
-    returns-2)
+    (tie.spec (λ c κs. search needs) (λ c κs. search needs) returns (λ c. search needs) numbered-requires returns-2)

@@ -13,12 +13,6 @@ returns c = no-size (inl (c .if1 .taken))
 returns-2 : tie.Need-returns-2
 returns-2 c = no-size (inr (c .if2 .taken))
 
-mul-if3 : tie.Need-mul-if3
-mul-if3 c = search needs
-
-add-if3 : tie.Need-add-if3
-add-if3 c = search needs
-
 returns-3 : tie.Need-returns-3
 returns-3 c = no-room (omega arith) (omega arith) (c .if3 .taken)
 
@@ -28,4 +22,6 @@ returns-4 c =
     fits (omega arith) (omega arith) (s .pre .1) (omega arith)
 
 pub sized-spec : {M : Type 1} → statement M
-sized-spec = tie.close (tie.spec returns returns-2 mul-if3 add-if3 returns-3 returns-4)
+sized-spec =
+    tie.close
+    (tie.spec returns returns-2 (λ c. search needs) (λ c. search needs) returns-3 returns-4)

@@ -5,18 +5,6 @@ use Rattle.jobfile.proofs.WriterLaws.{entry-placed}
 use Rattle.host.proofs.report.put_numbers.Statement.{statement}
 use Rattle.host.proofs.report.put_numbers.Tie as tie
 
-write16-requires : tie.Need-write16-requires
-write16-requires c κs = search needs
-
-write16-requires-2 : tie.Need-write16-requires-2
-write16-requires-2 c κs = search needs
-
-write16-requires-3 : tie.Need-write16-requires-3
-write16-requires-3 c κs = search needs
-
-same-length : tie.Need-same-length
-same-length c = search needs
-
 returns : tie.Need-returns
 returns c =
     let s : tie.Start = search needs in
@@ -27,4 +15,5 @@ returns c =
 
 pub put-numbers-spec : {M : Type 1} → statement M
 put-numbers-spec =
-    tie.close (tie.spec write16-requires write16-requires-2 write16-requires-3 same-length returns)
+    tie.close
+    (tie.spec (λ c κs. search needs) (λ c κs. search needs) (λ c κs. search needs) (λ c. search needs) returns)

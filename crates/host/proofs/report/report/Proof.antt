@@ -5,24 +5,6 @@ use Rattle.host.proofs.ReportLaws.{reported}
 use Rattle.host.proofs.report.report.Statement.{statement}
 use Rattle.host.proofs.report.report.Tie as tie
 
-number-requires : tie.Need-number-requires
-number-requires c κs = search needs
-
-place-requires : tie.Need-place-requires
-place-requires c κs = search needs
-
-joins-requires : tie.Need-joins-requires
-joins-requires c κs = search needs
-
-put-numbers-requires : tie.Need-put-numbers-requires
-put-numbers-requires c κs = search needs
-
-put-classes-requires : tie.Need-put-classes-requires
-put-classes-requires c κs = search needs
-
-same-length : tie.Need-same-length
-same-length c = search needs
-
 returns : tie.Need-returns
 returns c =
     let s : tie.Start = search needs in
@@ -36,11 +18,5 @@ returns c =
 pub report-spec : {M : Type 1} → statement M
 report-spec =
     tie.close
-    (tie.spec
-    number-requires
-    place-requires
-    joins-requires
-    put-numbers-requires
-    put-classes-requires
-    same-length
-    returns)
+    (tie.spec (λ c κs. search needs) (λ c κs. search needs) (λ c κs. search needs) (λ c κs. search needs)
+    (λ c κs. search needs) (λ c. search needs) returns)
