@@ -45,7 +45,8 @@ extern "C" {
 #define STATION_MOST_FILE 32768    /* bytes of a job file */
 
 /* What must be lent: work entries for a table of n words (its class entries are n), bytes of room for the
- * answer to a job of n words, and bytes for a file of so many jobs whose bodies have so many bytes. */
+ * answer to a job of n words, and bytes for a file of that number of jobs, whose bodies have bodies_len bytes
+ * together. */
 #define STATION_WORK_ENTRIES(n) (4 * (size_t)(n))
 #define STATION_ROOM_BYTES(n) (6 + 2 * (size_t)(n))
 #define STATION_FILE_BYTES(jobs, bodies_len) (2 + 6 * (size_t)(jobs) + (size_t)(bodies_len))
@@ -98,7 +99,7 @@ enum station_tag {
 #define STATION_POINTER_TO(address) ((uint32_t)STATION_TAG_POINTER << 16 | (uint16_t)(address))
 #define STATION_COUNT(arguments) ((uint32_t)STATION_TAG_COUNT << 16 | (uint16_t)(arguments))
 
-/* The tag of a word, which is none of these where a high bit is set, and its label, address or count. */
+/* The tag of a word, which is not one of these where a high bit is set, and its label, address or count. */
 #define STATION_TAG_OF(word) ((uint16_t)((uint32_t)(word) >> 16))
 #define STATION_CONTENT_OF(word) ((uint16_t)((word) & 65535u))
 

@@ -19,7 +19,7 @@ fn print_refusal(answer: FileAnswer) {
     io::write_all(STDOUT_FILENO, &line[..size]);
 }
 
-// Writes what was written again of a file of so many bytes, or the line of its refusal.
+// Writes the first `size` bytes of room, where the file was written again, or the line of its refusal.
 fn print_again(answer: FileAnswer, room: &[u8], size: usize) {
     if answers::file_number(answer) == 0 {
         io::write_all(STDOUT_FILENO, written::front(room, size));

@@ -19,7 +19,7 @@ neither-below {j} {k} f g = go (decLt j k) (decLt k j)
 pub lowest-only : {P : ℕ → Type 0} {j k : ℕ} → Lowest P j → Lowest P k → j ≡ k
 lowest-only {P} {j} {k} l m = neither-below (λ h. m .none-below j h (l .has)) (λ h. l .none-below k h (m .has))
 
--- where there is no lowest, there is none
+-- where no number is the lowest with a property, no number has it
 pub none-at-all : {P : ℕ → Type 0} → ((a : ℕ) → Lowest P a → ⊥) → (k a : ℕ) → a < k → P a → ⊥
 none-at-all lowest zero a h p = omega arith
 none-at-all lowest (suc k) a h p = lowest a (record { has = p; none-below = λ j l q. none-at-all lowest k j (omega arith) q })

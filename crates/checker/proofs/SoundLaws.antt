@@ -137,7 +137,7 @@ module _ (t : List ℕ) (a : ℕ) (later : 0 < a) where
 
 -- ---- the arguments, the block and the table
 
--- so many arguments are to come up to `to`, and one less after this one
+-- the words up to `to` are arguments still to come, and there is one less of them after this one
 pub argument-more : {t : List ℕ} {from to a : ℕ} → Walked t (more (to - from)) from (more (to - a)) a → 0 < from → a < to → to ≤ length t → isOneOf argumentKinds (kindAt t a) ≡ true → Good t a
     → Walked t (more (to - from)) from (more (to - (a + 1))) (a + 1)
 argument-more {t} {from} {to} {a} w later h inside e g =

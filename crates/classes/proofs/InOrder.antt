@@ -1,4 +1,4 @@
--- Two roots meet in the naming order: which of them comes first, and that they may meet either way about. Assumes nothing.
+-- Two roots meet in the naming order: which of them comes first, and that they may meet either way round. Assumes nothing.
 use mathlib.Core.Path.{_≡_, refl, sym, ap, _∙_, subst}
 use mathlib.Core.Logic.{⊎-elim}
 use mathlib.Core.List.{List, _∷_, List·Memᴰ·head, List·Memᴰ·tail, List·Memᴰ·cases-cons}

@@ -55,7 +55,7 @@ module _ {t row : List ℕ} (forest : Forest t row) where
       go (inr k) (inl f) = inr (omega (arith, ap (key (graphOf t)) f))
       go (inr k) (inr l) = inr (omega arith)
 
-  -- links that lead back to where they start are none
+  -- links do not lead back to where they start, but from a root to itself
   pub up-back : {x : ℕ} → x < length t → Up row (entry row x) x → entry row x ≡ x
   up-back {x} h u = go (up-key (forest .inside x h) u) (forest .falls x h)
     where

@@ -1,9 +1,9 @@
 -- The reader's answers, from its tests.
 --
 -- In order:
---     the bodies        Walked, walked-none, walked-more: what a walk along the entries knows
+--     the bodies        EntriesWalked, walked-none, walked-more: what a walk along the entries knows
 --                       bodies-wrong, bodies-past, bodies-follow, bodies-good: how it ends
---     the whole         judged-short, judged-long, judged-contents, judged-bodies
+--     the whole         judged-file, judged-contents, judged-bodies
 --     one answer        read-once, judged-only, read-only, bodies-only, body-only
 --     a good file       body-inside, good-judged, judged-good, passed-good, good-number
 -- Assumes nothing.

@@ -25,7 +25,7 @@ fn size_at(file: &[u8], i: usize) -> u16
     rows::read16(file, 2 + 6 * (i / 2) + 2 + 2 * (i % 2))
 }
 
-// Puts the sizes of a file, so many as are counted, over the front of row. The entries after them stay.
+// Puts the `count` sizes of a file over the front of row. The entries after them stay.
 pub fn put_sizes(file: &[u8], count: usize, row: &mut [u16])
     requires { ⌜ (contentsEnd (countIn (now file)) ≤ length (now file)) × (count ≡ 2 * countIn (now file)) × (count ≤ length (now row)) ⌝ }
     ensures { λ _. ⌜ now (row .exit) ≡ sizesIn (now (file .entry)) ++ drop count (now (row .entry)) ⌝ }

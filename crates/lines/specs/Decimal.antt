@@ -4,7 +4,7 @@ use mathlib.Core.List.{List, [], _∷_, _++_}
 use Prim.Native.Nat.{ℕ, zero, suc, _+_, _-_, _*_, _/_, _%_}
 use lib.Dec.{ltb}
 
--- the digits of x, at most so many; '0' is 48
+-- the last digits of x, at most as many as the first number says; '0' is 48
 unfoldable pub digits : ℕ → ℕ → List ℕ
 digits zero x = []
 digits (suc most) x = cond (ltb x 10) ((48 + x) ∷ []) (digits most (x / 10) ++ ((48 + x % 10) ∷ []))

@@ -43,7 +43,7 @@ headerLine = 106 ∷ 111 ∷ 98 ∷ 32 ∷ 97 ∷ 110 ∷ 115 ∷ 119 ∷ 101 �
 
 -- ---- a line in a row
 
--- A line stands at the front of a row and is so long; the bytes after it stay.
+-- A line of r bytes stands at the front of a row; the bytes after it stay.
 pub record LineIn (line row : List ℕ) (r : ℕ) (after : List ℕ) : Type 0 where
   pub long : r ≡ length line
   pub there : after ≡ line ++ drop (length line) row

@@ -15,7 +15,7 @@ use crate::answer::Matched;
 use classes::joining::Joined;
 use words::numbers::PairNumber;
 
-// Joins the first pairs of the list, so many, from each node its own class.
+// Joins the first `count` pairs of the list, from each node its own class.
 fn join_first(
     table: &[u32],
     list: &[u16],
@@ -46,7 +46,7 @@ fn join_until_clash(table: &[u32], list: &[u16], class: &mut [u16], work: &mut [
     }
 }
 
-// Whether the first pairs of the list, so many and with no clash, have a cycle.
+// Whether the first `count` pairs of the list, which have no clash, have a cycle.
 fn has_cycle(table: &[u32], list: &[u16], count: usize, class: &mut [u16], work: &mut [u16]) -> bool
     requires { ⌜ Standing (now table) (now list) (now class) (now work) × Clashless (now table) (now list) count ⌝ }
     ensures { λ r. ⌜ TellsCycle (now (table .entry)) (now (list .entry)) (now (class .entry)) (now (work .entry)) count r (now (class .exit)) (now (work .exit)) ⌝ }
@@ -55,8 +55,7 @@ fn has_cycle(table: &[u32], list: &[u16], count: usize, class: &mut [u16], work:
     cycles::reaches_itself(table, class, work)
 }
 
-// The number of the first pair that closes a cycle, where the first pairs, so many, have one and no
-// clash.
+// The number of the first pair that closes a cycle, where the first `many` pairs have one and no clash.
 fn first_cycle(
     table: &[u32],
     list: &[u16],

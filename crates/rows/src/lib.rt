@@ -1,5 +1,6 @@
 // What is done to lent rows of numbers: an entry is read, a front is cleared, a row is copied over the front of another,
-// numbers of 2 and 4 bytes are read from rows of bytes, and numbers of 2 bytes are written into them, the low byte first.
+// numbers of 2 and 4 bytes are read from rows of bytes, and numbers of 2 bytes are written into them, the low byte first. And
+// the lesser of two lengths.
 //
 // Each contract is an equation on the whole row, so it says what changes and what stays. The definitions that they cite,
 // specs/LittleEndian.antt and specs/Placed.antt, and the laws on them, proofs/Laws.antt, are for callers too.

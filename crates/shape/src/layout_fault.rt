@@ -9,7 +9,7 @@ use words::kind;
 use words::kind::Kind;
 use words::word;
 
-// What may stand next: an item; a count, after a function; so many more arguments, after a count.
+// What may stand next: an item; a count, after a function; the arguments that a count leaves to come.
 enum Wanted {
     Item,
     Count,
@@ -40,7 +40,7 @@ fn one_less(count: u16) -> u16
     if count == 0 { 0 } else { count - 1 }
 }
 
-// What may stand next if so many arguments are still to come.
+// What may stand next, by the number of arguments still to come.
 fn more(arguments: u16) -> Wanted
     ensures { λ r. ⌜ wantedOf r ≡ moreOf arguments ⌝ }
 {

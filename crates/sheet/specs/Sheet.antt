@@ -108,7 +108,7 @@ examples =
 
 -- ---- the statement
 
--- A row's job, with room for so many class and work entries.
+-- A row's job, with `class-room` class entries and `work-room` work entries.
 abbrev pub jobWith : Example → ℕ → ℕ → Job
 jobWith e class-room work-room = sent (e .table) (e .list) class-room work-room
 

@@ -22,7 +22,7 @@ pub data Items : List ℕ → Type 0 where
 
 -- ---- where the row breaks
 
--- What may stand next: an item; a count, after a function; so many more arguments, after a count.
+-- What may stand next: an item; a count, after a function; the arguments that a count leaves to come.
 pub data Wanted : Type 0 where
   item : Wanted
   count : Wanted

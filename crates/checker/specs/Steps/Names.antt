@@ -27,7 +27,7 @@ abbrev pub Either : Bool → Type 0 → Type 0 → Type 0
 Either true A B = A
 Either false A B = B
 
--- where the chain of a label begins, of so many chains
+-- where the chain of a label begins, by the number of chains
 unfoldable pub startOf : ℕ → ℕ → ℕ
 startOf label chains = label * 40503 % 65536 * chains / 65536
 

@@ -15,7 +15,7 @@ ByRows rows t answer =
     (list : List ℕ) (class-room work-room : ℕ)
     → Answered number (Fault (sent t list class-room work-room)) rows (numberOf answer) (placeOf answer)
 
--- 0, 1, 2, .. : so many numbers from one on
+-- 0, 1, 2, .. : the numbers from one on, as many as the second says
 abbrev pub counting : ℕ → ℕ → List ℕ
 counting from zero = []
 counting from (suc k) = from ∷ counting (suc from) k

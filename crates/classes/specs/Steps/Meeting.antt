@@ -90,12 +90,12 @@ pub record Stopped (t : List ℕ) (before : Config) (row work : List ℕ) : Type
   pub clash : (pairs : List Pair) → Within t pairs before → Clash (graphOf t) pairs
   pub kept : RestKept t before (record { row = row; work = work; waiting = 0; owed = [] })
 
--- What a step does: it went on, with so many pairs waiting and these still to meet, or it met a clash.
+-- What a step does: it went on, with `waiting` pairs that wait and `owed` still to meet, or it met a clash.
 pub data Turned (t : List ℕ) (before : Config) (row work : List ℕ) (owed : List Pair) : Turn → Type 0 where
   went-on : {waiting : ℕ} → Moved t before (record { row = row; work = work; waiting = waiting; owed = owed }) → Turned t before row work owed (Turn.Waiting waiting)
   clashed : Stopped t before row work → Turned t before row work owed Turn.Clash
 
--- the children of f and g at so many places from i on, as pairs
+-- the children of f and g at k places from i on, as pairs
 unfoldable pub childPairs : List ℕ → ℕ → ℕ → ℕ → ℕ → List Pair
 childPairs t f g i zero = []
 childPairs t f g i (suc k) = record { left = childOf t f i; right = childOf t g i } ∷ childPairs t f g (suc i) k

@@ -11,7 +11,7 @@ use Rattle.jobfile.specs.File.{contentsEnd, jobCount, bodiesSize, conten
 abbrev pub frontOf : List ℕ → List ℕ
 frontOf sizes = bytesOf 2 (jobCount sizes) ++ contentsOf (contentsEnd (jobCount sizes)) sizes
 
--- sizes of so many jobs, whose file is short enough, and room for its contents
+-- n and p of each job, with none missing; their file is short enough, and there is room for its contents
 pub record Fitted (sizes room : List ℕ) : Type 0 where
   pub even : length sizes ≡ 2 * jobCount sizes
   pub short : contentsEnd (jobCount sizes) + bodiesSize sizes ≤ mostBytes
