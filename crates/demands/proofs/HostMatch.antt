@@ -182,11 +182,11 @@ module _ {bytes : List ℕ} {job : ℕ} {room : List ℕ} (passes : HostPasses b
       class-table = h .bound z .class-table
 
       pub host-smallest : Smallest (graphOf table) (pairsOf (listOf bytes job)) (OneEntry (graphOf table) (h .classes))
-      host-smallest = class-table-smallest (has .well-formed) (has .sides) class-table
+      host-smallest = class-table-smallest (has .passed .well-formed) (has .sides) class-table
 
       pub host-classes : {x y : ℕ} → Node (graphOf table) x → Node (graphOf table) y
           → Same (graphOf table) (pairsOf (listOf bytes job)) x y ↔ (entry (h .classes) x ≡ entry (h .classes) y)
-      host-classes = class-table-classes (has .well-formed) (has .sides) class-table
+      host-classes = class-table-classes (has .passed .well-formed) (has .sides) class-table
 
       all-classes : take (length table) (h .classes) ≡ h .classes
       all-classes = take-all (length table) (h .classes) (omega (arith, class-table .long))
@@ -199,7 +199,7 @@ module _ {bytes : List ℕ} {job : ℕ} {room : List ℕ} (passes : HostPasses b
       host-answer-makes-equal = of-all (λ l. Unifies (graphOf table) (pairsOf (listOf bytes job)) (answer (graphOf table) l)) (answer-makes-equal as-match lent-passes (accepted z))
 
       pub host-answer-well-counted : (x : ℕ) → WellCounted (answer (graphOf table) (h .classes) x)
-      host-answer-well-counted = answer-counted (has .well-formed) (h .classes)
+      host-answer-well-counted = answer-counted (has .passed .well-formed) (h .classes)
 
       pub host-answer-rule : FollowsRule (graphOf table) (pairsOf (listOf bytes job)) (h .classes) (answer (graphOf table) (h .classes))
       host-answer-rule = of-all (λ l. FollowsRule (graphOf table) (pairsOf (listOf bytes job)) l (answer (graphOf table) l)) (answer-rule as-match lent-passes (accepted z))

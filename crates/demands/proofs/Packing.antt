@@ -23,7 +23,7 @@ use Rattle.graphs.specs.Graph.{Symbols, Graph}
 use Rattle.graphs.specs.Partition.{pairsOf, isNode, nodes, joins}
 use Rattle.table.specs.Table.{graphOf}
 use Rattle.table.specs.Faults.{Job, Fault, size-fault, room-fault, word-fault, layout-fault, pointer-fault, name-fault, loop-fault, list-fault, address-fault, clash-fault, cycle-fault, SIZE, LIST, number, checkOrder, listRows, pairRows, matchOrder}
-use Rattle.table.proofs.Shape.{inside-kind}
+use Rattle.table.proofs.Readable.{inside-kind}
 use Rattle.classes.proofs.ClassTables.{count-below}
 use Rattle.checker.specs.Check.{numberOf as checkNumber, placeOf as checkPlace, jobOf as checkedJob}
 use Rattle.checker.proofs.Stages.{break-within}
@@ -64,8 +64,8 @@ module _ {job : Job} where
   list-place : (a p : ℕ) → Answered number (Fault job) (listRows ++ pairRows) a p → p < 65536
   list-place a p (inl (e, list-fault x)) = omega arith
   list-place a p (inr (l, inl (e, address-fault f))) = omega (arith, f .has .0, few-pairs l)
-  list-place a p (inr (l, inr (d, inl (e, clash-fault h c n m)))) = omega (arith, h, few-pairs l)
-  list-place a p (inr (l, inr (d, inr (c, inl (e, cycle-fault h y f n m))))) = omega (arith, h, few-pairs l)
+  list-place a p (inr (l, inr (d, inl (e, clash-fault f)))) = omega (arith, f .within, few-pairs l)
+  list-place a p (inr (l, inr (d, inr (c, inl (e, cycle-fault f))))) = omega (arith, f .within, few-pairs l)
   list-place a p (inr (l, inr (d, inr (c, inr (y, (z, e)))))) = omega (arith, e)
 
   match-place : (a p : ℕ) → Answered number (Fault job) matchOrder a p → p < 65536

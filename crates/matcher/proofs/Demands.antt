@@ -102,11 +102,11 @@ module _ {t list class work : List ℕ} {r : Matched} {class-after work-after : 
   -- In it nodes are together exactly where they have one entry.
   pub accepted-classes : numberOf r ≡ 0 → {x y : ℕ} → Node (graphOf t) x → Node (graphOf t) y
       → Same (graphOf t) (pairsOf list) x y ↔ (entry (take (length t) class-after) x ≡ entry (take (length t) class-after) y)
-  accepted-classes z = class-table-classes (has .well-formed) (has .sides) (accepted-class-table z)
+  accepted-classes z = class-table-classes formed (has .sides) (accepted-class-table z)
 
   -- To have one entry in it is the smallest equivalence that joins the pairs and the children that must follow.
   pub accepted-smallest : numberOf r ≡ 0 → Smallest (graphOf t) (pairsOf list) (OneEntry (graphOf t) (take (length t) class-after))
-  accepted-smallest z = class-table-smallest (has .well-formed) (has .sides) (accepted-class-table z)
+  accepted-smallest z = class-table-smallest formed (has .sides) (accepted-class-table z)
 
   -- The joins are the number of nodes less the number of classes.
   pub accepted-joins : numberOf r ≡ 0 → joinsOf r ≡ joins (graphOf t) (take (length t) class-after)
@@ -157,7 +157,7 @@ module _ {t list class work : List ℕ} {r : Matched} {class-after work-after : 
   -- The terms of the answer have as many arguments as their symbols count, so it makes no difference whether a replacement by
   -- other terms is allowed.
   pub answer-well-counted : (x : ℕ) → WellCounted (answer (graphOf t) (take (length t) class-after) x)
-  answer-well-counted = answer-counted (has .well-formed) (take (length t) class-after)
+  answer-well-counted = answer-counted formed (take (length t) class-after)
 
   pub accepted-exactly-counted : (numberOf r ≡ 0) ↔ MetCounted (graphOf t) (pairsOf list)
   accepted-exactly-counted = (
@@ -181,7 +181,7 @@ module _ {t list class work : List ℕ} {r : Matched} {class-after work-after : 
   -- No other replacement follows that rule, on the variables of the table.
   pub answer-rule-only : numberOf r ≡ 0 → (σ : Replacement TableSymbols) → FollowsRule (graphOf t) (pairsOf list) (take (length t) class-after) σ
       → (x : ℕ) → graphOf t .head x ≡ variable → σ x ≡ answer (graphOf t) (take (length t) class-after) x
-  answer-rule-only z = answer-only (has .well-formed) (has .sides) (accepted-class-table z) (faultless z .0) (faultless z .1)
+  answer-rule-only z = answer-only formed (has .sides) (accepted-class-table z) (faultless z .0) (faultless z .1)
 
   -- ---- refusals and their place
 

@@ -62,9 +62,9 @@ fn first_cycle(
     many: usize,
     class: &mut [u16],
     work: &mut [u16],
-) -> usize
+) -> PairNumber
     requires { ⌜ Standing (now table) (now list) (now class) (now work) × Clashless (now table) (now list) many × Cycle (graphOf (now table)) (take many (pairsOf (now list))) ⌝ }
-    ensures { λ r. ⌜ CycleAt (now (table .entry)) (now (list .entry)) (now (class .entry)) (now (work .entry)) many r (now (class .exit)) (now (work .exit)) ⌝ }
+    ensures { λ r. ⌜ CycleAt (now (table .entry)) (now (list .entry)) (now (class .entry)) (now (work .entry)) many (r .0) (now (class .exit)) (now (work .exit)) ⌝ }
 {
     let mut none = 0;
     let mut some = many;
@@ -76,7 +76,7 @@ fn first_cycle(
             none = middle;
         }
     }
-    some
+    PairNumber(some as u16)
 }
 
 // The answer for a job that passes all checks.
@@ -89,7 +89,7 @@ pub(crate) fn unify(table: &[u32], list: &[u16], class: &mut [u16], work: &mut [
     if cycles::reaches_itself(table, class, work) {
         let first = first_cycle(table, list, joined, class, work);
         rows::clear16(class, n);
-        return Matched::Cycle(PairNumber(first as u16));
+        return Matched::Cycle(first);
     }
     if joined < list.len() / 2 {
         rows::clear16(class, n);

@@ -1,10 +1,11 @@
--- No row of document 01's table of numbers applies at two places (`fault-once`), and those of the table check do not look at the list
--- (`check-off-list`, `none-off-list`). Assumes nothing.
+-- No row of document 01's table of numbers applies at two places (`fault-once`); of 10 and 11 only one applies
+-- (`clash-or-cycle`); and those of the table check do not look at the list (`check-off-list`, `none-off-list`). Assumes nothing.
 use mathlib.Core.Path.{_≡_, refl, sym, ap, _∙_}
 use mathlib.Core.Bool.{true}
 use mathlib.Core.List.{List}
 use mathlib.Core.Option.{some}
-use Prim.Native.Nat.{ℕ, _+_, _<_}
+use Prim.Native.Nat.{ℕ, _+_, _≤_, _<_}
+use native.Mathlib.Decide.{decLe}
 use native.Mathlib.Omega.{arith}
 use lib.Dec.{leb}
 use lib.ListN.{take}
@@ -15,7 +16,7 @@ use Rattle.graphs.specs.Partition.{pairsOf, Clash, Cycle}
 use Rattle.graphs.proofs.Classes.{never}
 use Rattle.graphs.proofs.Theorems.{first-pairs-grow, clash-grows, cycle-grows}
 use Rattle.table.specs.Table.{graphOf}
-use Rattle.table.specs.Faults.{Job, sent, Row, number, Fault, size-fault, room-fault, word-fault, layout-fault, pointer-fault, name-fault, loop-fault, list-fault, address-fault, clash-fault, cycle-fault, checkOrder}
+use Rattle.table.specs.Faults.{Job, sent, Row, CLASH, CYCLE, number, Fault, size-fault, room-fault, word-fault, layout-fault, pointer-fault, name-fault, loop-fault, list-fault, address-fault, clash-fault, cycle-fault, checkOrder}
 
 -- No row applies at two places.
 module _ (job : Job) where
@@ -39,6 +40,14 @@ module _ (job : Job) where
       ap (λ (i : ℕ). i + 1) (neither-below (λ l. clash-before l (c .clash) (d .no-clash-before)) (λ l. clash-before l (d .clash) (c .no-clash-before)))
   fault-once row p q (cycle-fault c) (cycle-fault d) =
       ap (λ (i : ℕ). i + 1) (neither-below (λ l. cycle-before l (c .cycle) (d .no-cycle-before)) (λ l. cycle-before l (d .cycle) (c .no-cycle-before)))
+
+  -- "10 and 11 go by the lower k and cannot share one": only one of the two applies to a job.
+  pub clash-or-cycle : {p q : ℕ} → Fault job CLASH p → Fault job CYCLE q → ⊥
+  clash-or-cycle (clash-fault {i} c) (cycle-fault {j} d) = go (decLe (i + 1) (j + 1))
+    where
+      go : Dec (i + 1 ≤ j + 1) → ⊥
+      go (yes h) = clash-before {i = i} {j = j + 1} (omega (arith, h)) (c .clash) (d .no-clash)
+      go (no h) = cycle-before {i = j} {j = i} (omega (arith, h)) (d .cycle) (c .no-cycle-before)
 
 module _ (t : List ℕ) (c w : ℕ) where
   off-list : (list other : List ℕ) (row : Row) (p : ℕ) → leb (number row) 7 ≡ true → Fault (sent t list c w) row p → Fault (sent t other c w) row p

@@ -61,6 +61,12 @@ loop-again-2 c =
     let h : tie.After-has-cycle Inv-loop μ-loop = search needs in
     upper-half (o .loop .inv) (h .has-cycle .ensures) (omega (arith, o .loop .inv .apart)) (omega (arith, o .loop .inv .apart)) (c .if1 .left)
 
+cast-t16 : tie.Need-cast-t16 Inv-loop μ-loop
+cast-t16 c =
+    let p : tie.Start Inv-loop μ-loop = search needs in
+    let o : tie.At-loop Inv-loop μ-loop = search needs in
+    omega (arith, o .loop .inv .within, p .pre .1 .inside, length-pairsOf (p .args .list .now), p .pre .0 .ready .few)
+
 same-length : tie.Need-same-length Inv-loop μ-loop
 same-length c =
     let o : tie.At-loop Inv-loop μ-loop = search needs in
@@ -90,6 +96,7 @@ first-cycle-spec =
     loop-again
     loop-less-2
     loop-again-2
+    cast-t16
     same-length
     same-length-2
     returns)

@@ -28,13 +28,6 @@ first-cycle-requires c κs =
 clear16-requires : tie.Need-clear16-requires
 clear16-requires c κs = search needs
 
-cast-t25 : tie.Need-cast-t25
-cast-t25 c =
-    let p : tie.Start = search needs in
-    let u : tie.After-join-until-clash = search needs in
-    let f : tie.After-first-cycle = search needs in
-    omega (arith, f .first-cycle .ensures .within, u .join-until-clash .ensures .inside, length-pairsOf (p .args .list .now), p .pre .0 .ready .few)
-
 same-length : tie.Need-same-length
 same-length c = search needs
 
@@ -45,18 +38,18 @@ returns : tie.Need-returns
 returns c =
     let p : tie.Start = search needs in
     let f : tie.After-first-cycle = search needs in
-    let u : tie.After-join-until-clash = search needs in
     let r : tie.After-reaches-itself = search needs in
+    let u : tie.After-join-until-clash = r .before .before .before .before .before .before .before in
     cycle-refused (p .pre .0) (u .join-until-clash .ensures) (r .reaches-itself .ensures) (p .pre .1) (f .first-cycle .ensures) (c .before .before .clear16 .ensures) _ refl
 
 clear16-requires-2 : tie.Need-clear16-requires-2
 clear16-requires-2 c κs = search needs
 
-add-t33 : tie.Need-add-t33
-add-t33 c = search needs
+add-t31 : tie.Need-add-t31
+add-t31 c = search needs
 
-cast-t34 : tie.Need-cast-t34
-cast-t34 c = search needs
+cast-t32 : tie.Need-cast-t32
+cast-t32 c = search needs
 
 same-length-3 : tie.Need-same-length-3
 same-length-3 c = search needs
@@ -103,13 +96,12 @@ unify-spec =
     reaches-itself-requires
     first-cycle-requires
     clear16-requires
-    cast-t25
     same-length
     same-length-2
     returns
     clear16-requires-2
-    add-t33
-    cast-t34
+    add-t31
+    cast-t32
     same-length-3
     same-length-4
     returns-2
