@@ -43,7 +43,7 @@ module _ (job : Job) where
 
   -- "10 and 11 go by the lower k and cannot share one": only one of the two applies to a job.
   pub clash-or-cycle : {p q : ℕ} → Fault job CLASH p → Fault job CYCLE q → ⊥
-  clash-or-cycle (clash-fault {i} c) (cycle-fault {j} d) = go (decLe (i + 1) (j + 1))
+  clash-or-cycle (clash-fault {i = i} c) (cycle-fault {i = j} d) = go (decLe (i + 1) (j + 1))
     where
       go : Dec (i + 1 ≤ j + 1) → ⊥
       go (yes h) = clash-before {i = i} {j = j + 1} (omega (arith, h)) (c .clash) (d .no-clash)
