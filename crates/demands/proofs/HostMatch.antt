@@ -32,7 +32,8 @@ use Rattle.matcher.proofs.Demands.{accepted-exactly, accepted-exactly-counted, 
 use Rattle.jobfile.specs.File.{bodyIn}
 use Rattle.jobfile.specs.Faults.{fileNumber, readOrder}
 use Rattle.jobfile.proofs.NumberLaws.{length-rowIn}
-use Rattle.host.specs.Host.{entryOf, wordsOf, tableOf, listOf, jobOf, of-file, of-match, hostNumber, HostFault, size-fault, callRows, earlyOrder, hostOrder, HostOf}
+use Rattle.jobfile.specs.Jobs.{entryOf, wordsOf, tableOf, listOf}
+use Rattle.host.specs.Host.{jobOf, of-file, of-match, hostNumber, HostFault, size-fault, callRows, earlyOrder, hostOrder, HostOf}
 use Rattle.host.proofs.ChoiceLaws.{to-match, none-of-match}
 use Rattle.host.proofs.JobLaws.{sizes-pass}
 use Rattle.demands.specs.HostPasses.{HostPasses}

@@ -24,7 +24,8 @@ use Rattle.jobfile.specs.File.{countIn, sizesIn, fileOf}
 use Rattle.jobfile.specs.Writer.{WriteOf, roomWritten, numberOf as writeNumber}
 use Rattle.jobfile.proofs.FileLaws.{length-sizesFrom}
 use Rattle.jobfile.proofs.WriteAnswers.{write-answer-only}
-use Rattle.host.specs.Host.{wordsOf, reportOf, writesNothing, HostOf}
+use Rattle.jobfile.specs.Jobs.{wordsOf}
+use Rattle.host.specs.Host.{reportOf, writesNothing, HostOf}
 use Rattle.host.specs.Sizes.{SizesOf}
 use Rattle.station.proofs.Theorems.{host-answer-only, host-report-only, same-answer, sizes-answer-only}
 use Rattle.demands.proofs.Buffers.{left-front}

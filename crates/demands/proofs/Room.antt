@@ -19,7 +19,8 @@ use Rattle.matcher.proofs.Verdicts.{at-most}
 use Rattle.jobfile.specs.File.{bodyIn}
 use Rattle.jobfile.specs.Faults.{fileNumber, readOrder}
 use Rattle.jobfile.proofs.NumberLaws.{length-bytesOfRow, length-rowIn}
-use Rattle.host.specs.Host.{entryOf, wordsOf, tableOf, listOf, of-file, hostNumber, HostFault, room-fault, callRows, earlyOrder, lateOrder, hostOrder, reportOf, writesNothing, roomAfter, HostOf}
+use Rattle.jobfile.specs.Jobs.{entryOf, wordsOf, tableOf, listOf}
+use Rattle.host.specs.Host.{of-file, hostNumber, HostFault, room-fault, callRows, earlyOrder, lateOrder, hostOrder, reportOf, writesNothing, roomAfter, HostOf}
 use Rattle.host.proofs.ChoiceLaws.{early-silent}
 use Rattle.demands.proofs.Lengths.{front-length}
 

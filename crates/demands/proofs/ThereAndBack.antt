@@ -8,7 +8,7 @@ use lib.ListN.{length, take, drop, getD}
 use lib.Seq.{take-at}
 use Rattle.graphs.specs.Partition.{pairsOf}
 use Rattle.jobfile.specs.File.{countIn, wordsIn, pairsIn, bodyIn, GoodFile}
-use Rattle.jobfile.specs.Jobs.{FileJob, sizesOf, bodiesOf, fileOfJobs, Holdable, jobIn, jobsIn}
+use Rattle.jobfile.specs.Jobs.{FileJob, sizesOf, bodiesOf, fileOfJobs, Holdable, jobIn, jobsIn, entryOf, tableOf, listOf}
 use Rattle.jobfile.specs.Reader.{ReadOf}
 use Rattle.jobfile.specs.Writer.{WriteOf}
 use Rattle.jobfile.specs.declared.answers.FileAnswer.{FileAnswer}
@@ -17,7 +17,6 @@ use Rattle.jobfile.specs.declared.answers.WriteAnswer.{WriteAnswer}
 use Rattle.jobfile.specs.declared.answers.WriteAnswer.the-variants.{Written}
 use Rattle.jobfile.specs.declared.sizes.Sizes.{Sizes}
 use Rattle.jobfile.proofs.Theorems.{jobs-written, jobs-read-back, job-body}
-use Rattle.host.specs.Host.{entryOf, tableOf, listOf}
 
 module _ {jobs : List FileJob} {room after : List ℕ} {written : WriteAnswer} {answer : FileAnswer} {sizes : Sizes} (holdable : Holdable jobs) (enough : length (fileOfJobs jobs) ≤ length room) (w : WriteOf (sizesOf jobs) (bodiesOf jobs) room written after) (r : ReadOf (take (length (fileOfJobs jobs)) after) answer sizes) where
   -- the bytes in front are the file

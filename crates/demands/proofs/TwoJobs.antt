@@ -17,7 +17,8 @@ use Rattle.table.proofs.OneAnswer.{fault-once}
 use Rattle.jobfile.specs.Numbers.{bytesOfRow, rowIn}
 use Rattle.jobfile.specs.File.{countIn, bodyStart, bodiesSize, contentsOf, fileOf, GoodFile}
 use Rattle.jobfile.proofs.Written.{written-good}
-use Rattle.host.specs.Host.{wordsOf, jobOf, of-match, HostFault, match-fault, earlyOrder, HostOf}
+use Rattle.jobfile.specs.Jobs.{wordsOf}
+use Rattle.host.specs.Host.{jobOf, of-match, HostFault, match-fault, earlyOrder, HostOf}
 use Rattle.host.proofs.ChoiceLaws.{none-early}
 use Rattle.sheet.specs.Sheet.{exampleA, exampleB}
 use Rattle.sheet.proofs.Theorems.{sheet-holds}

@@ -23,7 +23,8 @@ use Rattle.jobfile.specs.declared.answers.FileAnswer.the-variants.{Good}
 use Rattle.jobfile.specs.declared.sizes.Sizes.{Sizes}
 use Rattle.jobfile.proofs.FileLaws.{length-sizesFrom, entry-in-sizes}
 use Rattle.jobfile.proofs.ReaderLaws.{read-once, good-judged, judged-good, good-number}
-use Rattle.host.specs.Host.{entryOf, wordsOf, jobOf, HostRow, of-file, JOB, SIZE, ROOM, of-match, hostNumber, HostFault, file-fault, job-fault, size-fault, room-fault, match-fault, callRows, earlyOrder, lateOrder, reportOf, writesNothing, HostOf}
+use Rattle.jobfile.specs.Jobs.{entryOf, wordsOf}
+use Rattle.host.specs.Host.{jobOf, HostRow, of-file, JOB, SIZE, ROOM, of-match, hostNumber, HostFault, file-fault, job-fault, size-fault, room-fault, match-fault, callRows, earlyOrder, lateOrder, reportOf, writesNothing, HostOf}
 use Rattle.host.specs.Steps.Choice.{Sized, no-size, no-room, fits, Numbered, no-job, there, Early, JobFound, Choice}
 use Rattle.host.specs.declared.choice.Chosen.{Chosen}
 use Rattle.host.specs.declared.choice.Chosen.the-variants.{Refused, Found}

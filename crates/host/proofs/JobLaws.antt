@@ -1,11 +1,10 @@
--- A job that the host call found. In order: its words and addresses, as they are copied out of its body (`part-size`,
--- `words-copied`, `pairs-copied`); the match's answer as the host call's (`host-lent`); the rows
--- that are lent for it (`rows-fit`, `lent-fronts`). Assumes nothing.
+-- A job that the host call found. In order: the match's answer as the host call's (`host-lent`); the rows that are lent for it
+-- (`rows-fit`, `lent-fronts`). Assumes nothing.
 use mathlib.Core.Path.{_≡_, refl, sym, ap, _∙_, subst}
 use mathlib.Core.Bool.{true, false, not}
 use mathlib.Core.Logic.{_⊎_, inr, ⊎-elim}
 use mathlib.Core.List.{List, _++_, append-nil}
-use Prim.Native.Nat.{ℕ, suc, _+_, _-_, _*_, _≤_, _<_, min}
+use Prim.Native.Nat.{ℕ, _+_, _-_, _*_, _≤_, _<_, min}
 use native.Mathlib.Nat.{min-eq-left, min-eq-right}
 use native.Mathlib.Decide.{decLe}
 use native.Mathlib.Omega.{arith}
@@ -24,40 +23,15 @@ use Rattle.table.specs.Faults.{sent, Row as MatchRow, SIZE, ROOM, Fault, size-f
 use Rattle.matcher.specs.Match.{numberOf, placeOf, joinsOf, MatchOf}
 use Rattle.matcher.specs.declared.answer.Matched.{Matched}
 use Rattle.matcher.proofs.OneMatch.{refused-joins}
-use Rattle.jobfile.specs.File.{countIn, pairsIn, bodyIn}
-use Rattle.jobfile.specs.Reader.{BodyOf}
-use Rattle.jobfile.specs.Body.{taken}
+use Rattle.jobfile.specs.File.{pairsIn, bodyIn}
 use Rattle.jobfile.proofs.NumberLaws.{length-rowIn}
-use Rattle.jobfile.proofs.Theorems.{body-size, body-words, body-pairs}
-use Rattle.host.specs.Host.{entryOf, wordsOf, tableOf, listOf, jobOf, hostNumber, HostFault, earlyOrder, lateOrder, reportOf, writesNothing, HostOf}
+use Rattle.jobfile.specs.Jobs.{JobTaken, entryOf, wordsOf, tableOf, listOf}
+use Rattle.host.specs.Host.{jobOf, hostNumber, HostFault, earlyOrder, lateOrder, reportOf, writesNothing, HostOf}
 use Rattle.host.specs.Steps.Choice.{JobFound}
-use Rattle.host.specs.Steps.Rows.{listRoom, RowsFit, Copyable, RowsOfJob}
+use Rattle.host.specs.Steps.Rows.{listRoom, RowsFit, RowsOfJob}
 use Rattle.host.proofs.ReportLaws.{room-reported}
 use Rattle.host.proofs.ChoiceLaws.{from-match, none-early}
 use Rattle.host.proofs.CutLaws.{long-lists}
-
--- ---- out of the body
-
-module _ {bytes : List ℕ} {job : ℕ} {table list part : List ℕ} (c : Copyable bytes job table list) (b : BodyOf bytes job part) where
-  entry-there : entryOf job < countIn bytes
-  entry-there = omega (arith, c .some-job, c .inside)
-
-  numbered : BodyOf bytes (suc (entryOf job)) part
-  numbered = let way : job ≡ suc (entryOf job) = omega (arith, c .some-job) in subst (λ (j : ℕ). BodyOf bytes j part) way b
-
-  pub part-size : length part ≡ 4 * length table + 4 * pairsIn bytes (entryOf job)
-  part-size = omega (arith, body-size (c .good) (entryOf job) entry-there numbered, c .words)
-
-  pub words-copied : {after : List ℕ} → after ≡ taken 4 part table → after ≡ tableOf bytes job
-  words-copied e =
-      let n : ℕ = wordsOf bytes job in
-      e
-      ∙ body-words (c .good) (entryOf job) entry-there numbered table (omega (arith, c .words))
-      ∙ take-all (length table) (tableOf bytes job) (omega (arith, c .words, length-rowIn 4 n (bodyIn bytes (entryOf job))))
-
-  pub pairs-copied : {after : List ℕ} → after ≡ taken 2 (take (length part - 4 * length table) (drop (4 * length table) part)) list
-      → after ≡ take (length list) (listOf bytes job)
-  pairs-copied e = e ∙ body-pairs (c .good) (entryOf job) entry-there numbered list (c .words) (c .pairs)
 
 -- ---- the match's answer
 
@@ -130,7 +104,7 @@ module _ {bytes : List ℕ} {job : ℕ} {table list class work room : List ℕ} 
   host-answered : (a p : ℕ) → Answered matchNumber (Fault (jobOf bytes job)) matchOrder a p → Answered hostNumber (HostFault bytes job room) (earlyOrder ++ lateOrder) a p
   host-answered a p x =
       none-first hostNumber (HostFault bytes job room) earlyOrder lateOrder a p
-      (none-early bytes job room (lent .copyable .good) (lent .copyable .some-job) (lent .copyable .inside) (lent .some-word) (lent .few-words) (lent .enough))
+      (none-early bytes job room (lent .copied .there .good) (lent .copied .there .some-job) (lent .copied .there .inside) (lent .some-word) (lent .few-words) (lent .enough))
       (from-match bytes job room lateRows a p refl (late a p x))
 
   -- the class entries are as many as the buffer lent for them
@@ -178,7 +152,7 @@ module _ {bytes : List ℕ} {job : ℕ} {table list class work room : List ℕ} 
       })
 
   -- the same, as the stages say it
-  pub host-lent : {t l : List ℕ} {answer : Matched} {class-after work-after after : List ℕ} {r : ℕ} → (t ≡ tableOf bytes job) × (l ≡ take (length list) (listOf bytes job))
+  pub host-lent : {t l : List ℕ} {answer : Matched} {class-after work-after after : List ℕ} {r : ℕ} → JobTaken bytes job list t l
       → MatchOf t l class work answer class-after work-after
       → (r ≡ numberOf answer) × (after ≡ placed 0 (reportOf (numberOf answer) (placeOf answer) (joinsOf answer) class-after) room) → HostOf bytes job room r after
   host-lent {t} {l} {answer} {class-after} {work-after} copied m (e, stored) =
@@ -201,11 +175,9 @@ pub lent-fronts : {bytes : List ℕ} {job n p entries : ℕ} (table list class w
 lent-fronts {p = p} {entries} table list class work o (tables, lists, classes, works) (e, there, inside) =
     let long : length (take entries list) ≡ entries = length-take-le entries list inside in
     record {
-      copyable =
+      copied =
           record {
-            good = o .good;
-            some-job = o .some-job;
-            inside = o .inside;
+            there = record { good = o .good; some-job = o .some-job; inside = o .inside };
             words = length-take-le _ table tables ∙ o .words;
             pairs = omega (arith, there, o .pairs);
           };

@@ -13,27 +13,12 @@ use Rattle.graphs.specs.Partition.{pairsOf, ClassTable, joins}
 use Rattle.table.specs.Table.{graphOf}
 use Rattle.answering.specs.Answers.{Answered}
 use Rattle.table.specs.Faults.{Job, sent, Row as MatchRow, Fault, number as matchNumber, tableRows, listRows, pairRows}
-use Rattle.jobfile.specs.Numbers.{bytesOfRow, rowIn}
-use Rattle.jobfile.specs.File.{countIn, wordsIn, pairsIn, bodyIn}
+use Rattle.jobfile.specs.Numbers.{bytesOfRow}
+use Rattle.jobfile.specs.File.{countIn}
+use Rattle.jobfile.specs.Jobs.{wordsOf, tableOf, listOf}
 use Rattle.jobfile.specs.Faults.{FileRow, ReadFault, fileNumber, readOrder}
 
--- ---- the job of a number
-
--- Jobs are numbered from 1; the entries of the contents are counted from 0.
-abbrev pub entryOf : ℕ → ℕ
-entryOf job = job - 1
-
--- n of the job
-abbrev pub wordsOf : List ℕ → ℕ → ℕ
-wordsOf bytes job = wordsIn bytes (entryOf job)
-
--- its table: the n words of 4 bytes at the front of its body
-abbrev pub tableOf : List ℕ → ℕ → List ℕ
-tableOf bytes job = rowIn 4 (wordsOf bytes job) (bodyIn bytes (entryOf job))
-
--- its list: the 2p addresses of 2 bytes after them
-abbrev pub listOf : List ℕ → ℕ → List ℕ
-listOf bytes job = rowIn 2 (2 * pairsIn bytes (entryOf job)) (drop (4 * wordsOf bytes job) (bodyIn bytes (entryOf job)))
+-- ---- the job
 
 -- What the match is sent. The host call has buffers of n and of 4n entries for it, so that 2 is about the room alone.
 abbrev pub jobOf : List ℕ → ℕ → Job

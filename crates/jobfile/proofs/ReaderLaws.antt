@@ -4,7 +4,7 @@
 --     the bodies        EntriesWalked, walked-none, walked-more: what a walk along the entries knows
 --                       bodies-wrong, bodies-past, bodies-follow, bodies-good: how it ends
 --     the whole         judged-file, judged-contents, judged-bodies
---     one answer        read-once, judged-only, read-only, bodies-only, body-only
+--     one answer        read-once, judged-only, read-only, bodies-only
 --     a good file       body-inside, good-judged, judged-good, passed-good, good-number
 -- Assumes nothing.
 use mathlib.Core.Path.{_≡_, refl, sym, ap, ap₂, _∙_, subst}
@@ -24,7 +24,7 @@ use Rattle.answering.proofs.LowestLaws.{lowest-only}
 use Rattle.answering.proofs.Orders.{answered-only, passed-none}
 use Rattle.jobfile.specs.File.{bodySize, contentsEnd, countIn, offsetIn, wordsIn, pairsIn, bodyStart, GoodFile}
 use Rattle.jobfile.specs.Faults.{FileRow, FILE, CONTENTS, BODY, fileNumber, BodyFault, wrong-offset, past-end, bytes-follow, ReadFault, file-fault, contents-fault, body-fault, readOrder}
-use Rattle.jobfile.specs.Reader.{numberOf, placeOf, Judged, yieldedSizes, yieldedBodies, yieldedBody, inRow, Holds, ReadOf, BodiesOf, BodyOf}
+use Rattle.jobfile.specs.Reader.{numberOf, placeOf, Judged, yieldedSizes, yieldedBodies, inRow, Holds, ReadOf, BodiesOf}
 use Rattle.jobfile.specs.Steps.Reading.{Opened, BodiesJudged}
 use Rattle.jobfile.specs.declared.answers.FileAnswer.{FileAnswer}
 use Rattle.jobfile.specs.declared.answers.FileAnswer.the-variants.{Good, File, Contents, Body}
@@ -167,17 +167,11 @@ pub read-only : {bytes : List ℕ} {r s : FileAnswer} {a b : Sizes} → ReadOf b
 read-only {bytes} {r} {s} x y =
     let e : r ≡ s = judged-only r s (x .judged) (y .judged) in (e, holds-only (ap (λ (q : FileAnswer). yieldedSizes q bytes) e) (x .yielded) (y .yielded))
 
--- .. and two that the contract of bodies allows ..
+-- .. and two that the contract of bodies allows.
 pub bodies-only : {bytes part₁ part₂ : List ℕ} → BodiesOf bytes part₁ → BodiesOf bytes part₂ → part₁ ≡ part₂
 bodies-only {bytes} x y =
     let e : x .answer ≡ y .answer = judged-only (x .answer) (y .answer) (x .judged) (y .judged) in
     x .yielded ∙ ap (λ (q : FileAnswer). yieldedBodies q bytes) e ∙ sym (y .yielded)
-
--- .. and two that the contract of body allows.
-pub body-only : {bytes part₁ part₂ : List ℕ} {job : ℕ} → BodyOf bytes job part₁ → BodyOf bytes job part₂ → part₁ ≡ part₂
-body-only {bytes} {job = job} x y =
-    let e : x .answer ≡ y .answer = judged-only (x .answer) (y .answer) (x .judged) (y .judged) in
-    x .yielded ∙ ap (λ (q : FileAnswer). yieldedBody q bytes job) e ∙ sym (y .yielded)
 
 -- ---- a good file
 

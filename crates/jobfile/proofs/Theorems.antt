@@ -5,40 +5,35 @@
 --     writer-writes-good         the writer writes only good files, with the sizes and bodies that it was sent
 --     good-read-written-again    a good file read and written again has the same bytes
 --     jobs-written, jobs-read-back    jobs written to a file are read back as the same jobs: sizes, words and pairs
---     body-size, body-words, body-pairs, job-body    how long a job's body is, what is taken out of it, and that this is that job
+--     job-body                   job k of a file is what its own body holds
 --     read-sizes, read-count, read-length    which sizes count, that they are at most 128, and how long their row is
 --
--- Two results that a public contract allows are equal: `read-only`, `bodies-only` and `body-only` (ReaderLaws.antt), `write-only`
--- (WriteAnswers.antt), `taken-only` (TakenLaws.antt). Assumes nothing.
+-- Two results that a public contract allows are equal: `read-only` and `bodies-only` (ReaderLaws.antt), `write-only`
+-- (WriteAnswers.antt). Assumes nothing.
 use mathlib.Core.Path.{_≡_, refl, sym, ap, ap₂, _∙_, subst}
-use mathlib.Core.Bool.{Bool, cond}
-use mathlib.Core.List.{List, [], _++_}
-use Prim.Native.Nat.{ℕ, suc, _+_, _-_, _*_, _≤_, _<_}
+use mathlib.Core.List.{List, _++_}
+use Prim.Native.Nat.{ℕ, _+_, _-_, _*_, _≤_, _<_}
 use native.Mathlib.Omega.{arith}
-use lib.ListN.{length, take, drop, getD, replicate, length-replicate, length-append, length-drop}
-use lib.Seq.{take-at, length-take-le}
-use borrow.Author.Tests.{lt-ltb}
+use lib.ListN.{length, take, drop, getD, replicate, length-replicate, length-append}
+use lib.Seq.{take-at}
 use Rattle.rows.specs.LittleEndian.{AllBytes}
 use Rattle.words.specs.Limits.{mostSizes}
 use Rattle.graphs.specs.Partition.{pairsOf}
 use Rattle.jobfile.specs.Numbers.{rowIn}
 use Rattle.jobfile.specs.File.{bodySize, countIn, wordsIn, pairsIn, bodyStart, bodyIn, sizesIn, bodiesIn, GoodFile, fileOf}
 use Rattle.jobfile.specs.Jobs.{FileJob, sizesOf, bodiesOf, fileOfJobs, Holdable, jobIn, jobsFrom, jobsIn}
-use Rattle.jobfile.specs.Reader.{Judged, yieldedSizes, yieldedBodies, numberedBody, yieldedBody, inRow, Holds, ReadOf, BodiesOf, BodyOf}
+use Rattle.jobfile.specs.Reader.{Judged, yieldedSizes, yieldedBodies, inRow, Holds, ReadOf, BodiesOf}
 use Rattle.jobfile.specs.Writer.{WriteOf, roomWritten}
-use Rattle.jobfile.specs.Body.{taken}
 use Rattle.jobfile.specs.declared.answers.FileAnswer.{FileAnswer}
 use Rattle.jobfile.specs.declared.answers.FileAnswer.the-variants.{Good, File, Contents, Body}
 use Rattle.jobfile.specs.declared.answers.WriteAnswer.{WriteAnswer}
 use Rattle.jobfile.specs.declared.answers.WriteAnswer.the-variants.{Written}
 use Rattle.jobfile.specs.declared.sizes.Sizes.{Sizes}
-use Rattle.jobfile.proofs.NumberLaws.{to-the-end}
-use Rattle.jobfile.proofs.FileLaws.{length-sizesFrom, next-start}
-use Rattle.jobfile.proofs.ReaderLaws.{judged-only, good-judged, judged-good, body-inside}
+use Rattle.jobfile.proofs.FileLaws.{length-sizesFrom}
+use Rattle.jobfile.proofs.ReaderLaws.{judged-only, good-judged, judged-good}
 use Rattle.jobfile.proofs.WriteAnswers.{written-writable, writable-written}
 use Rattle.jobfile.proofs.Written.{Writable, written-good, written-sizes, written-bodies, good-again, good-writable}
-use Rattle.jobfile.proofs.JobLaws.{length-sizesOf, jobs-sum, jobs-back, row-in-front, row-front, drop-take, job-there}
-use Rattle.jobfile.proofs.TakenLaws.{taken-full}
+use Rattle.jobfile.proofs.JobLaws.{length-sizesOf, jobs-sum, jobs-back, row-in-front, drop-take, job-there}
 
 -- ---- the reader and the good files
 
@@ -62,16 +57,6 @@ module _ {bytes : List ℕ} (good : GoodFile bytes) where
 
   pub good-bodies : {part : List ℕ} → BodiesOf bytes part → part ≡ bodiesIn bytes
   good-bodies b = b .yielded ∙ ap (λ (q : FileAnswer). yieldedBodies q bytes) (judged-only (b .answer) Good (b .judged) (good-judged good))
-
-  -- of a job that is there, its body
-  pub good-body : {part : List ℕ} {k : ℕ} → k < countIn bytes → BodyOf bytes (suc k) part → part ≡ bodyIn bytes k
-  unfolding numberedBody
-  good-body {part} {k} h b =
-      b .yielded
-      ∙ ap (λ (q : FileAnswer). yieldedBody q bytes (suc k)) (judged-only (b .answer) Good (b .judged) (good-judged good))
-      ∙ ap (λ (x : Bool). cond x (bodyIn bytes k) []) (lt-ltb k (countIn bytes) h)
-
--- ---- the writer and the good files
 
 pub writer-writes-good : {sizes bodies room after : List ℕ} → WriteOf sizes bodies room Written after
     → GoodFile (fileOf sizes bodies)
@@ -120,31 +105,7 @@ jobs-read-back {jobs} h r =
       ap₂ (λ (s b : List ℕ). jobsFrom s b) (written-sizes w) (written-bodies w) ∙ jobs-back jobs (h .numbers-fit),
     )
 
--- ---- a job taken out of its body
-
-module _ {bytes part : List ℕ} (good : GoodFile bytes) (k : ℕ) (there : k < countIn bytes) (b : BodyOf bytes (suc k) part) where
-  pub body-size : length part ≡ bodySize (wordsIn bytes k) (pairsIn bytes k)
-  body-size =
-      let inside : bodySize (wordsIn bytes k) (pairsIn bytes k) ≤ length (drop (bodyStart bytes k) bytes) =
-      simp length-drop (omega (arith, next-start bytes k refl refl refl, body-inside good k there)) in
-      ap length (good-body good there b) ∙ length-take-le (bodySize (wordsIn bytes k) (pairsIn bytes k)) (drop (bodyStart bytes k) bytes) inside
-
-  -- a row of at most n entries is filled with the first words of the body ..
-  pub body-words : (row : List ℕ) → length row ≤ wordsIn bytes k → taken 4 part row ≡ take (length row) (rowIn 4 (wordsIn bytes k) (bodyIn bytes k))
-  body-words row h =
-      taken-full 4 part row (omega (arith, body-size))
-      ∙ row-front 4 (length row) (wordsIn bytes k) part h
-      ∙ ap (λ (l : List ℕ). take (length row) (rowIn 4 (wordsIn bytes k) l)) (good-body good there b)
-
-  -- .. and one of at most 2p entries, from behind the n words, with its first addresses
-  pub body-pairs : {n : ℕ} (row : List ℕ) → n ≡ wordsIn bytes k → length row ≤ 2 * pairsIn bytes k
-      → taken 2 (take (length part - 4 * n) (drop (4 * n) part)) row ≡ take (length row) (rowIn 2 (2 * pairsIn bytes k) (drop (4 * wordsIn bytes k) (bodyIn bytes k)))
-  body-pairs {n} row words h =
-      let p : ℕ = pairsIn bytes k in
-      ap (λ (l : List ℕ). taken 2 l row) (to-the-end (4 * n) part)
-      ∙ taken-full 2 (drop (4 * n) part) row (omega (arith, body-size, length-drop (4 * n) part))
-      ∙ row-front 2 (length row) (2 * p) (drop (4 * n) part) h
-      ∙ ap₂ (λ (m : ℕ) (l : List ℕ). take (length row) (rowIn 2 (2 * p) (drop (4 * m) l))) words (good-body good there b)
+-- ---- jobs by number
 
 -- job k of the file is what its own body holds
 pub job-body : (bytes : List ℕ) (k : ℕ) → k < countIn bytes → (d : FileJob) → getD (jobsIn bytes) k d ≡ jobIn (wordsIn bytes k) (pairsIn bytes k) (bodyIn bytes k)

@@ -1,6 +1,5 @@
--- What a job file is, by bytes (Numbers, File) and by jobs (Jobs); which faults it can have (Faults); what the reader, the
--- writer and the two copies out of a body promise (Reader, Writer, Body). Steps has what the private steps promise each other.
-pub mod Body
+-- What a job file is, by bytes (Numbers, File) and by jobs (Jobs, with what is copied out of one); which faults it can have
+-- (Faults); what the reader and the writer promise (Reader, Writer). Steps has what the private steps promise each other.
 pub mod Faults
 pub mod File
 pub mod Jobs

@@ -1,13 +1,11 @@
 -- What the reader answers, and what it yields. The sentences quoted are document 01's, "The job file". Assumes nothing.
 use mathlib.Core.Path.{_≡_}
-use mathlib.Core.Bool.{cond}
 use mathlib.Core.List.{List, [], _++_}
-use Prim.Native.Nat.{ℕ, zero, suc, _-_}
-use lib.Dec.{ltb}
+use Prim.Native.Nat.{ℕ, _-_}
 use lib.ListN.{length, replicate}
 use Rattle.words.specs.Limits.{mostSizes}
 use Rattle.answering.specs.Answers.{Answered}
-use Rattle.jobfile.specs.File.{countIn, bodyIn, sizesIn, bodiesIn}
+use Rattle.jobfile.specs.File.{sizesIn, bodiesIn}
 use Rattle.jobfile.specs.Faults.{fileNumber, ReadFault, readOrder}
 use Rattle.jobfile.specs.declared.answers.FileAnswer.{FileAnswer}
 use Rattle.jobfile.specs.declared.answers.FileAnswer.the-variants.{Good, File, Contents, Body}
@@ -47,17 +45,6 @@ yieldedBodies File bytes = []
 yieldedBodies Contents bytes = []
 yieldedBodies (Body entry) bytes = []
 
--- the body of a job, by its number from 1, and nothing where there is no such job
-unfoldable pub numberedBody : ℕ → List ℕ → List ℕ
-numberedBody zero bytes = []
-numberedBody (suc k) bytes = cond (ltb k (countIn bytes)) (bodyIn bytes k) []
-
-abbrev pub yieldedBody : FileAnswer → List ℕ → ℕ → List ℕ
-yieldedBody Good bytes job = numberedBody job bytes
-yieldedBody File bytes job = []
-yieldedBody Contents bytes job = []
-yieldedBody (Body entry) bytes job = []
-
 -- "by value, at most 128 numbers, unused places 0"
 unfoldable pub inRow : List ℕ → List ℕ
 inRow xs = xs ++ replicate (mostSizes - length xs) 0
@@ -78,8 +65,3 @@ pub record BodiesOf (bytes part : List ℕ) : Type 0 where
   pub answer : FileAnswer
   pub judged : Judged bytes answer
   pub yielded : part ≡ yieldedBodies answer bytes
-
-pub record BodyOf (bytes : List ℕ) (job : ℕ) (part : List ℕ) : Type 0 where
-  pub answer : FileAnswer
-  pub judged : Judged bytes answer
-  pub yielded : part ≡ yieldedBody answer bytes job

@@ -1,3 +1,4 @@
 -- What the crate's own steps promise each other; nobody else need read it.
 pub mod Reading
+pub mod Taking
 pub mod Writing

@@ -4,8 +4,8 @@ ghost use mathlib.Core.Path.{_≡_};
 ghost use mathlib.Core.List.{_++_};
 ghost use Prim.Native.Nat.{_*_, _≤_, _<_};
 ghost use lib.ListN.{length, getD, drop};
-ghost use Rattle.jobfile.specs.File.{contentsEnd, countIn, sizesIn, GoodFile};
-ghost use Rattle.jobfile.specs.Reader.{numberedBody, yieldedSizes, Holds, Judged, ReadOf, BodiesOf, BodyOf};
+ghost use Rattle.jobfile.specs.File.{contentsEnd, countIn, sizesIn};
+ghost use Rattle.jobfile.specs.Reader.{yieldedSizes, Holds, Judged, ReadOf, BodiesOf};
 use crate::answers::FileAnswer;
 use crate::contents;
 use crate::sizes::Sizes;
@@ -68,33 +68,6 @@ pub fn bodies(file: &[u8]) -> &[u8]
     if let FileAnswer::Good = answer {
         let start = 2 + 6 * contents::number(file, 0);
         return &file[start..];
-    }
-    &file[0..0]
-}
-
-// The body of the job of a number, from 1, in a good file: a part of it, which is empty if there is no such job.
-fn numbered_body(file: &[u8], job: usize) -> &[u8]
-    requires { ⌜ GoodFile (now file) ⌝ }
-    ensures { λ r. ⌜ now r ≡ numberedBody job (now (file .entry)) ⌝ }
-{
-    if job == 0 {
-        return &file[0..0];
-    }
-    if contents::number(file, 0) < job {
-        return &file[0..0];
-    }
-    let start = contents::number(file, 2 + 6 * (job - 1));
-    let end = start + contents::body_size(file, job - 1);
-    &file[start..end]
-}
-
-// The same of any file; the part is empty too if the file is refused.
-pub fn body(file: &[u8], job: usize) -> &[u8]
-    ensures { λ r. ⌜ BodyOf (now (file .entry)) job (now r) ⌝ }
-{
-    let answer = contents::judge(file);
-    if let FileAnswer::Good = answer {
-        return numbered_body(file, job);
     }
     &file[0..0]
 }

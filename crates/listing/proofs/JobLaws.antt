@@ -1,5 +1,5 @@
 -- Jobs of a file, in rows of their own lengths. In order:
---     what is copied and matched    part-size, words-loaded, entries-loaded, job-matched
+--     what is copied and matched    rows-for-job, job-matched
 --     lengths                       job-room, entry-sizes
 --     the answers                   good-listed, accepted-room: what is known once an answer is 0
 --     the row of the table          front-inside, front-fits: its first n entries, once they have come back
@@ -7,8 +7,7 @@
 -- Assumes nothing.
 use mathlib.Core.Path.{_≡_, refl, sym, ap, _∙_, subst}
 use mathlib.Core.List.{List, [], _++_}
-use Prim.Native.Nat.{ℕ, suc, _+_, _-_, _*_, _/_, _≤_, _<_}
-use native.Mathlib.Numerals.{add-one}
+use Prim.Native.Nat.{ℕ, _+_, _-_, _*_, _/_, _≤_, _<_}
 use native.Mathlib.Omega.{arith}
 use lib.ListN.{length, take, drop, getD, length-append}
 use lib.Seq.{take-all, length-take-le}
@@ -22,55 +21,50 @@ use Rattle.matcher.proofs.Verdicts.{ready}
 use Rattle.matcher.proofs.OneMatch.{match-only}
 use Rattle.jobfile.specs.File.{countIn, wordsIn, pairsIn, bodyStart, bodyIn, sizesIn, GoodFile}
 use Rattle.jobfile.specs.Numbers.{rowIn}
-use Rattle.jobfile.specs.Body.{taken}
-use Rattle.jobfile.specs.Jobs.{FileJob, entriesOf}
-use Rattle.jobfile.specs.Reader.{ReadOf, BodyOf, numberOf as fileNumber}
+use Rattle.jobfile.specs.Jobs.{FileJob, entriesOf, entryOf, RowsForJob, JobTaken}
+use Rattle.jobfile.specs.Reader.{ReadOf, numberOf as fileNumber}
 use Rattle.jobfile.specs.declared.answers.FileAnswer.{FileAnswer}
 use Rattle.jobfile.specs.declared.sizes.Sizes.{Sizes}
 use Rattle.jobfile.proofs.NumberLaws.{length-rowIn}
 use Rattle.jobfile.proofs.FileLaws.{length-sizesFrom, entry-in-sizes, next-start}
 use Rattle.jobfile.proofs.JobLaws.{entries-pairs}
 use Rattle.jobfile.proofs.ReaderLaws.{body-inside, good-number}
-use Rattle.jobfile.proofs.Theorems.{reader-accepts-good, good-sizes, body-size, body-words, body-pairs, job-body}
-use Rattle.listing.specs.Listing.{Entered, jobAt, JobMatched}
+use Rattle.jobfile.proofs.Theorems.{reader-accepts-good, good-sizes, job-body}
+use Rattle.listing.specs.Listing.{Entered, RowsOfEntry, jobAt, JobMatched}
 
 -- ---- what is copied and matched
 
 abbrev none : FileJob
 none = record { words = []; pairs = [] }
 
-module _ {file part : List ℕ} {k : ℕ} (entered : Entered file k) (body : BodyOf file (k + 1) part) where
-  numbered : BodyOf file (suc k) part
-  numbered = subst (λ (j : ℕ). BodyOf file j part) (add-one k) body
+pub rows-for-job : {file table list : List ℕ} {k : ℕ} → RowsOfEntry file k table list → RowsForJob file (k + 1) table list
+rows-for-job {file} {table} {k = k} ((good, there), words, pairs) =
+    let one : k ≡ entryOf (k + 1) = omega arith in
+    record {
+      there = record { good = good; some-job = omega arith; inside = omega arith };
+      words = words ∙ ap (wordsIn file) one;
+      pairs = omega (arith, pairs, ap (pairsIn file) one);
+    }
 
-  pub part-size : length part ≡ 4 * wordsIn file k + 4 * pairsIn file k
-  part-size = body-size (entered .0) k (entered .1) numbered
-
-  pub words-loaded : (row : List ℕ) {after : List ℕ} → length row ≡ wordsIn file k → after ≡ taken 4 part row → after ≡ jobAt file k .words
-  words-loaded row size e =
-      let n : ℕ = wordsIn file k in
-      e
-      ∙ body-words (entered .0) k (entered .1) numbered row (omega arith)
-      ∙ take-all (length row) (rowIn 4 n (bodyIn file k)) (omega (arith, length-rowIn 4 n (bodyIn file k)))
-      ∙ ap (λ (job : FileJob). job .words) (sym (job-body file k (entered .1) none))
-
-  pub entries-loaded : {n : ℕ} (row : List ℕ) {after : List ℕ} → n ≡ wordsIn file k → length row ≡ 2 * pairsIn file k → after ≡ taken 2 (take (length part - 4 * n) (drop (4 * n) part)) row → after ≡ entriesOf (jobAt file k .pairs)
-  entries-loaded row here size e =
-      let p : ℕ = pairsIn file k in
-      let bytes : List ℕ = drop (4 * wordsIn file k) (bodyIn file k) in
-      e
-      ∙ body-pairs (entered .0) k (entered .1) numbered row here (omega arith)
-      ∙ take-all (length row) (rowIn 2 (2 * p) bytes) (omega (arith, length-rowIn 2 (2 * p) bytes))
-      ∙ sym (entries-pairs p (rowIn 2 (2 * p) bytes) (length-rowIn 2 (2 * p) bytes))
-      ∙ ap (λ (job : FileJob). entriesOf (job .pairs)) (sym (job-body file k (entered .1) none))
-
-pub job-matched : {file table list class work class-after work-after : List ℕ} {k : ℕ} {answer : Matched} → table ≡ jobAt file k .words → list ≡ entriesOf (jobAt file k .pairs)
-    → MatchOf table list class work answer class-after work-after → JobMatched file k class work answer table list class-after work-after
-job-matched {file} {table} {list} {class} {work} {class-after} {work-after} {k} {answer} w e m = record {
-  words = w;
-  entries = e;
-  matched = subst (λ (l : List ℕ). MatchOf (jobAt file k .words) l class work answer class-after work-after) e (subst (λ (l : List ℕ). MatchOf l list class work answer class-after work-after) w m);
-}
+pub job-matched : {file table list class work class-after work-after : List ℕ} {k : ℕ} {answer : Matched} (lists : List ℕ) → Entered file k → length lists ≡ 2 * pairsIn file k
+    → JobTaken file (k + 1) lists table list → MatchOf table list class work answer class-after work-after → JobMatched file k class work answer table list class-after work-after
+job-matched {file} {table} {list} {class} {work} {class-after} {work-after} {k} {answer} lists entered size taken m =
+    let one : entryOf (k + 1) ≡ k = omega arith in
+    let p : ℕ = pairsIn file k in
+    let bytes : List ℕ = drop (4 * wordsIn file k) (bodyIn file k) in
+    let w : table ≡ jobAt file k .words =
+    taken .0 ∙ ap (λ (i : ℕ). rowIn 4 (wordsIn file i) (bodyIn file i)) one ∙ ap (λ (job : FileJob). job .words) (sym (job-body file k (entered .1) none)) in
+    let e : list ≡ entriesOf (jobAt file k .pairs) =
+    taken .1
+    ∙ ap (λ (i : ℕ). take (length lists) (rowIn 2 (2 * pairsIn file i) (drop (4 * wordsIn file i) (bodyIn file i)))) one
+    ∙ take-all (length lists) (rowIn 2 (2 * p) bytes) (omega (arith, length-rowIn 2 (2 * p) bytes))
+    ∙ sym (entries-pairs p (rowIn 2 (2 * p) bytes) (length-rowIn 2 (2 * p) bytes))
+    ∙ ap (λ (job : FileJob). entriesOf (job .pairs)) (sym (job-body file k (entered .1) none)) in
+    record {
+      words = w;
+      entries = e;
+      matched = subst (λ (l : List ℕ). MatchOf (jobAt file k .words) l class work answer class-after work-after) e (subst (λ (l : List ℕ). MatchOf l list class work answer class-after work-after) w m);
+    }
 
 -- a file has at most 32,768 bytes
 pub job-room : {file : List ℕ} {k : ℕ} → Entered file k → (wordsIn file k ≤ 8192) × (2 * pairsIn file k ≤ 16384)

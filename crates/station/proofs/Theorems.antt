@@ -21,7 +21,8 @@ use Rattle.jobfile.specs.Faults.{FileRow, ROOM, FILE, CONTENTS, BODY, fileNumbe
 use Rattle.jobfile.specs.Writer.{numberOf as writeNumber}
 use Rattle.jobfile.proofs.WriteAnswers.{write-only}
 use Rattle.host.specs.AsOne.{asOne}
-use Rattle.host.specs.Host.{tableOf, HostRow, hostNumber, HostFault, file-fault, job-fault, size-fault, room-fault, match-fault, hostOrder, reportOf, roomAfter, HostOf}
+use Rattle.jobfile.specs.Jobs.{tableOf}
+use Rattle.host.specs.Host.{HostRow, hostNumber, HostFault, file-fault, job-fault, size-fault, room-fault, match-fault, hostOrder, reportOf, roomAfter, HostOf}
 use Rattle.host.specs.Sizes.{SizesFault, SizesOf}
 use Rattle.host.proofs.ChoiceLaws.{host-once}
 use Rattle.host.proofs.SizesLaws.{sizes-once}

@@ -20,7 +20,8 @@ use Rattle.jobfile.specs.File.{countIn, fileOf}
 use Rattle.jobfile.specs.Reader.{ReadOf, numberOf as readNumber, placeOf as readPlace}
 use Rattle.jobfile.specs.Writer.{WriteOf, numberOf as writeNumber, placeOf as writePlace}
 use Rattle.host.specs.AsOne.{answerIn, placeIn, joinsIn}
-use Rattle.host.specs.Host.{HostOf, HostFault, hostOrder, wordsOf, reportOf, writesNothing, hostNumber}
+use Rattle.jobfile.specs.Jobs.{wordsOf}
+use Rattle.host.specs.Host.{HostOf, HostFault, hostOrder, reportOf, writesNothing, hostNumber}
 use Rattle.host.specs.Sizes.{SizesFault, SizesOf}
 use Rattle.station.specs.Entries.{LentOf, CheckedOf, WrittenOf}
 use Rattle.checker.proofs.OneCheck.{check-only}

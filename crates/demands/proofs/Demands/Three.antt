@@ -12,7 +12,8 @@ use Rattle.matcher.specs.declared.answer.Matched.{Matched}
 use Rattle.matcher.specs.Match.{MatchOf, Passes, numberOf, jobOf}
 use Rattle.matcher.specs.Demands.{Met, MetCounted}
 use Rattle.host.specs.AsOne.{answerIn}
-use Rattle.host.specs.Host.{HostOf, tableOf, listOf}
+use Rattle.jobfile.specs.Jobs.{tableOf, listOf}
+use Rattle.host.specs.Host.{HostOf}
 use Rattle.station.specs.Entries.{LentOf}
 use Rattle.demands.specs.HostPasses.{HostPasses}
 use Rattle.matcher.proofs.Demands.{accepted-passes, accepted-exactly, accepted-exactly-counted, answer-makes-equal, answer-well-counted, answer-rule, answer-rule-only, answer-most-general-of-list}

@@ -17,11 +17,11 @@ use Rattle.jobfile.specs.declared.answers.WriteAnswer.{WriteAnswer}
 use Rattle.jobfile.specs.declared.answers.WriteAnswer.the-variants.{Written}
 use Rattle.jobfile.specs.declared.sizes.Sizes.{Sizes}
 use Rattle.jobfile.specs.File.{countIn, sizesIn, GoodFile}
-use Rattle.jobfile.specs.Jobs.{FileJob, sizesOf, bodiesOf, fileOfJobs, Holdable, jobsIn}
+use Rattle.jobfile.specs.Jobs.{FileJob, sizesOf, bodiesOf, fileOfJobs, Holdable, jobsIn, entryOf, wordsOf, tableOf, listOf}
 use Rattle.jobfile.specs.Reader.{ReadOf, BodiesOf}
 use Rattle.jobfile.specs.Writer.{WriteOf}
 use Rattle.host.specs.AsOne.{answerIn, placeIn, joinsIn}
-use Rattle.host.specs.Host.{HostOf, entryOf, wordsOf, tableOf, listOf, reportOf}
+use Rattle.host.specs.Host.{HostOf, reportOf}
 use Rattle.host.specs.Sizes.{SizesOf}
 use Rattle.station.specs.Entries.{LentOf}
 use Rattle.demands.specs.HostPasses.{HostPasses}

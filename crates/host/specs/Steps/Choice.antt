@@ -7,7 +7,8 @@ use lib.ListN.{length, getD}
 use Rattle.words.specs.Limits.{mostWords}
 use Rattle.answering.specs.Answers.{Answered}
 use Rattle.jobfile.specs.File.{countIn, wordsIn, pairsIn, GoodFile}
-use Rattle.host.specs.Host.{entryOf, HostFault, hostNumber, earlyOrder}
+use Rattle.jobfile.specs.Jobs.{entryOf}
+use Rattle.host.specs.Host.{HostFault, hostNumber, earlyOrder}
 use Rattle.host.specs.declared.choice.Chosen.{Chosen}
 use Rattle.host.specs.declared.choice.Chosen.the-variants.{Refused, Found}
 

@@ -4,8 +4,8 @@ use mathlib.Core.List.{List}
 use Prim.Native.Nat.{ℕ, _+_, _-_, _*_, _≤_, min}
 use lib.ListN.{length}
 use Rattle.words.specs.Limits.{mostWords}
-use Rattle.jobfile.specs.File.{countIn, pairsIn, GoodFile}
-use Rattle.host.specs.Host.{entryOf, wordsOf}
+use Rattle.jobfile.specs.File.{pairsIn}
+use Rattle.jobfile.specs.Jobs.{entryOf, wordsOf, RowsForJob}
 
 -- Words of the tables that have small and middle rows.
 abbrev pub smallRow : ℕ
@@ -22,17 +22,9 @@ listRoom = 514
 abbrev pub RowsFit : ℕ → ℕ → ℕ → ℕ → ℕ → Type 0
 RowsFit n table list class work = (n ≤ table) × (list ≡ listRoom) × (n ≤ class) × (4 * n ≤ work)
 
--- rows for the job's words, and for its addresses or the first of them
-pub record Copyable (bytes : List ℕ) (job : ℕ) (table list : List ℕ) : Type 0 where
-  pub good : GoodFile bytes
-  pub some-job : 1 ≤ job
-  pub inside : job ≤ countIn bytes
-  pub words : length table ≡ wordsOf bytes job
-  pub pairs : length list ≤ 2 * pairsIn bytes (entryOf job)
-
--- the same for a match of it
+-- rows for the job and for a match of it
 pub record RowsOfJob (bytes : List ℕ) (job : ℕ) (table list class work room : List ℕ) : Type 0 where
-  pub copyable : Copyable bytes job table list
+  pub copied : RowsForJob bytes job table list
   pub cut : length list ≡ min (2 * pairsIn bytes (entryOf job)) listRoom
   pub classes : length class ≡ wordsOf bytes job
   pub works : length work ≡ 4 * wordsOf bytes job

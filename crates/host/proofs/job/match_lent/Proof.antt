@@ -5,8 +5,8 @@ use Rattle.host.proofs.JobLaws.{host-lent}
 use Rattle.host.proofs.job.match_lent.Statement.{statement}
 use Rattle.host.proofs.job.match_lent.Tie as tie
 
-copy-job-requires : tie.Need-copy-job-requires
-copy-job-requires c κs = search needs
+take-job-requires : tie.Need-take-job-requires
+take-job-requires c κs = search needs
 
 match-list-requires : tie.Need-match-list-requires
 match-list-requires c κs = search needs
@@ -32,16 +32,16 @@ same-length-5 c = search needs
 returns : tie.Need-returns
 returns c =
     let s : tie.Start = search needs in
-    let k : tie.After-copy-job = search needs in
+    let k : tie.After-take-job = search needs in
     let m : tie.After-match-list = search needs in
     let q : tie.After-report = search needs in
-    host-lent (s .pre) (k .copy-job .ensures) (m .match-list .ensures) (q .report .ensures)
+    host-lent (s .pre) (k .take-job .ensures) (m .match-list .ensures) (q .report .ensures)
 
 pub match-lent-spec : {M : Type 1} → statement M
 match-lent-spec =
     tie.close
     (tie.spec
-    copy-job-requires
+    take-job-requires
     match-list-requires
     report-requires
     same-length

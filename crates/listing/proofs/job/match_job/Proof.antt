@@ -1,14 +1,15 @@
 -- `listing::job::match_job` meets its contract. Assumes nothing.
-use Rattle.listing.proofs.JobLaws.{job-matched}
+use Rattle.listing.proofs.JobLaws.{rows-for-job, job-matched}
 use borrow.Author.Needs.{needs}
 use Rattle.listing.proofs.job.match_job.Statement.{statement}
 use Rattle.listing.proofs.job.match_job.Tie as tie
 
-load-words-requires : tie.Need-load-words-requires
-load-words-requires c κs = search needs
+add-take-job : tie.Need-add-take-job
+add-take-job c = search needs
 
-load-pairs-requires : tie.Need-load-pairs-requires
-load-pairs-requires c κs = search needs
+take-job-requires : tie.Need-take-job-requires
+take-job-requires c κs =
+    let s : tie.Start = search needs in rows-for-job (s .pre)
 
 match-list-requires : tie.Need-match-list-requires
 match-list-requires c κs = search needs
@@ -26,14 +27,18 @@ same-length-4 : tie.Need-same-length-4
 same-length-4 c = search needs
 
 returns : tie.Need-returns
-returns c = job-matched (c .before .before .before .before .before .before .before .before .before .before .before .before .before .before .before .load-words .ensures) (c .before .before .before .before .before .before .before .before .before .before .before .load-pairs .ensures) (c .before .before .before .before .match-list .ensures)
+returns c =
+    let s : tie.Start = search needs in
+    let t : tie.After-take-job = search needs in
+    let m : tie.After-match-list = search needs in
+    job-matched (s .args .list .now) (s .pre .0) (s .pre .2) (t .take-job .ensures) (m .match-list .ensures)
 
 pub match-job-spec : {M : Type 1} → statement M
 match-job-spec =
     tie.close
     (tie.spec
-    load-words-requires
-    load-pairs-requires
+    add-take-job
+    take-job-requires
     match-list-requires
     same-length
     same-length-2

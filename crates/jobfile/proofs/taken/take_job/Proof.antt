@@ -1,13 +1,14 @@
--- `host::job::copy_job` meets its contract.
+-- `jobfile::taken::take_job` meets its contract.
 -- Assumes nothing.
 use native.Mathlib.Omega.{arith}
 use borrow.Author.Needs.{needs}
-use Rattle.host.proofs.JobLaws.{part-size, words-copied, pairs-copied}
-use Rattle.host.proofs.job.copy_job.Statement.{statement}
-use Rattle.host.proofs.job.copy_job.Tie as tie
+use Rattle.jobfile.proofs.TakenLaws.{part-size, job-taken}
+use Rattle.jobfile.proofs.taken.take_job.Statement.{statement}
+use Rattle.jobfile.proofs.taken.take_job.Tie as tie
 
 body-requires : tie.Need-body-requires
-body-requires c κs = search needs
+body-requires c κs =
+    let s : tie.Start = search needs in s .pre .there
 
 mul-start : tie.Need-mul-start
 mul-start c = search needs
@@ -45,10 +46,10 @@ returns c =
     let b : tie.After-body = search needs in
     let w : tie.After-take-words = search needs in
     let p : tie.After-take-pairs = search needs in
-    (words-copied (s .pre) (b .body .ensures) (w .take-words .ensures), pairs-copied (s .pre) (b .body .ensures) (p .take-pairs .ensures))
+    job-taken (s .pre) (b .body .ensures) (w .take-words .ensures) (p .take-pairs .ensures)
 
-pub copy-job-spec : {M : Type 1} → statement M
-copy-job-spec =
+pub take-job-spec : {M : Type 1} → statement M
+take-job-spec =
     tie.close
     (tie.spec
     body-requires
