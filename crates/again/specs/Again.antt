@@ -1,20 +1,14 @@
--- A file that is read and written again. Assumes nothing.
+-- What the program writes for a file. Assumes nothing.
 use mathlib.Core.Path.{_≡_}
-use mathlib.Core.List.{List, _++_}
-use lib.ListN.{length, drop}
+use mathlib.Core.List.{List}
 use Prim.Native.Nat.{ℕ}
-use Rattle.jobfile.specs.Reader.{Judged}
-use Rattle.jobfile.specs.declared.answers.FileAnswer.{FileAnswer}
-use Rattle.jobfile.specs.declared.answers.FileAnswer.the-variants.{Good, File, Contents, Body}
+use Rattle.answering.specs.Answers.{Answered}
+use Rattle.jobfile.specs.File.{GoodFile}
+use Rattle.jobfile.specs.Faults.{fileNumber, ReadFault, readOrder}
+use Rattle.lines.specs.Lines.{fileLine}
 
--- "A job file that is read and written again has the same bytes": a good file stands in front of the room, and a refused one
--- leaves the room as it was
-unfoldable pub roomAgain : FileAnswer → List ℕ → List ℕ → List ℕ
-roomAgain Good file room = file ++ drop (length file) room
-roomAgain File file room = room
-roomAgain Contents file room = room
-roomAgain (Body entry) file room = room
-
-pub record AgainOf (file room : List ℕ) (answer : FileAnswer) (after : List ℕ) : Type 0 where
-  pub judged : Judged file answer
-  pub same : after ≡ roomAgain answer file room
+pub data AgainOf (file : List ℕ) : List ℕ → Type 0 where
+  -- "A job file that is read and written again has the same bytes"
+  same-bytes : GoodFile file → AgainOf file file
+  -- a refused file gives the line that a listing of it is
+  refusal : {answer place : ℕ} → Answered fileNumber (ReadFault file) readOrder answer place → (answer ≡ 0 → ⊥) → AgainOf file (fileLine answer place)

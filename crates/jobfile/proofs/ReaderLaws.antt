@@ -4,7 +4,7 @@
 --     the bodies        EntriesWalked, walked-none, walked-more: what a walk along the entries knows
 --                       bodies-wrong, bodies-past, bodies-follow, bodies-good: how it ends
 --     the whole         judged-file, judged-contents, judged-bodies
---     one answer        read-once, judged-only, read-only, bodies-only
+--     one answer        read-once, answered-once, judged-only, read-only, bodies-only
 --     a good file       body-inside, good-judged, judged-good, passed-good, good-number
 -- Assumes nothing.
 use mathlib.Core.Path.{_≡_, refl, sym, ap, ap₂, _∙_, subst}
@@ -19,7 +19,7 @@ use lib.Dec.{eqb}
 use lib.ListN.{length}
 use borrow.Author.Count.{below-more}
 use Rattle.words.specs.Limits.{mostBytes, mostJobs}
-use Rattle.answering.specs.Answers.{Lowest}
+use Rattle.answering.specs.Answers.{Answered, Lowest}
 use Rattle.answering.proofs.LowestLaws.{lowest-only}
 use Rattle.answering.proofs.Orders.{answered-only, passed-none}
 use Rattle.jobfile.specs.File.{bodySize, contentsEnd, countIn, offsetIn, wordsIn, pairsIn, bodyStart, GoodFile}
@@ -149,11 +149,14 @@ answer-by-numbers File = refl
 answer-by-numbers Contents = refl
 answer-by-numbers (Body entry) = refl
 
--- A file has one answer.
+-- A file has one answer, by its numbers ..
+pub answered-once : {bytes : List ℕ} {a p b q : ℕ} → Answered fileNumber (ReadFault bytes) readOrder a p → Answered fileNumber (ReadFault bytes) readOrder b q → (a ≡ b) × (p ≡ q)
+answered-once {bytes} {a} {p} {b} {q} x y = answered-only fileNumber (ReadFault bytes) read-once readOrder a p b q x y
+
+-- .. and as it is.
 pub judged-only : {bytes : List ℕ} (r s : FileAnswer) → Judged bytes r → Judged bytes s → r ≡ s
-judged-only {bytes} r s a b =
-    let same : (numberOf r ≡ numberOf s) × (placeOf r ≡ placeOf s) =
-    answered-only fileNumber (ReadFault bytes) read-once readOrder (numberOf r) (placeOf r) (numberOf s) (placeOf s) a b in
+judged-only r s a b =
+    let same : (numberOf r ≡ numberOf s) × (placeOf r ≡ placeOf s) = answered-once a b in
     sym (answer-by-numbers r) ∙ ap₂ answerWith (same .0) (same .1) ∙ answer-by-numbers s
 
 holds-only : {xs ys : List ℕ} {a b : Sizes} → xs ≡ ys → Holds a xs → Holds b ys → a ≡ b

@@ -2,9 +2,10 @@
 --     one part after another      store-digit, store-digits, field-placed, line-first, line-more: what stores and copies leave
 --     a front lent on             line-counts
 --     read back                   job-line-read, variable-line-read, file-line-read: a line tells its numbers; decimal-tells
---     one result                  line-only
+--     what was put                line-written, copied-front, text-written
+--     one result                  line-only, text-only
 -- Assumes nothing.
-use mathlib.Core.Path.{_≡_, refl, sym, ap, ap₂, _∙_}
+use mathlib.Core.Path.{_≡_, refl, sym, ap, ap₂, _∙_, subst}
 use mathlib.Core.List.{List, [], _∷_, _++_, append-assoc, append-nil}
 use Prim.Native.Nat.{ℕ, suc, _+_, _/_, _%_, _≤_, _<_}
 use native.Mathlib.Omega.{arith}
@@ -13,7 +14,7 @@ use lib.Seq.{drop-cons, take-at, set-at, sets-eq, append-snoc, length-take-le}
 use Rattle.rows.specs.Placed.{placed}
 use Rattle.rows.proofs.Laws.{behind-stays}
 use Rattle.lines.specs.Decimal.{decimal, numbersFrom, numbersIn}
-use Rattle.lines.specs.Lines.{SPACE, NEWLINE, field, jobLine, variableLine, fileLine, LineIn, Counts}
+use Rattle.lines.specs.Lines.{SPACE, NEWLINE, field, jobLine, variableLine, fileLine, LineIn, TextIn, Counts}
 use Rattle.lines.proofs.Decimals.{decimal-small, decimal-more, decimal-longer, numbers-end, decimal-read}
 
 -- ---- one part after another
@@ -124,8 +125,28 @@ decimal-tells x y e =
     let same : x ∷ [] ≡ y ∷ [] = sym (field-read-last x SPACE (omega arith)) ∙ ap (λ (l : List ℕ). numbersIn (l ++ (SPACE ∷ []))) e ∙ field-read-last y SPACE (omega arith) in
     ap (λ (l : List ℕ). getD l 0 0) same
 
+-- ---- what was put
+
+-- what was put into the row, and is counted, is the line ..
+pub line-written : {line row after : List ℕ} {r : ℕ} → LineIn line row r after → take r after ≡ line
+line-written {line} {row} {r = r} l = ap (take r) (l .there) ∙ take-at line (drop (length line) row) r (sym (l .long))
+
+-- .. also where it was copied to the front of another row ..
+pub copied-front : {line row₀ after₀ row after : List ℕ} {r : ℕ} → LineIn line row₀ r after₀ → after ≡ take r after₀ ++ drop (length (take r after₀)) row → LineIn line row r after
+copied-front {row = row} l e = record { long = l .long; there = e ∙ ap (λ (text : List ℕ). text ++ drop (length text) row) (line-written l) }
+
+-- .. and so is such text
+pub text-written : {Text : List ℕ → Type 0} {row after : List ℕ} {r : ℕ} → TextIn Text row r after → Text (take r after)
+text-written {Text} t = subst Text (sym (line-written (t .there))) (t .is)
+
 -- ---- one result
 
 -- Two results that a contract of this crate allows are equal.
 pub line-only : {line row after₁ after₂ : List ℕ} {r s : ℕ} → LineIn line row r after₁ → LineIn line row s after₂ → (r ≡ s) × (after₁ ≡ after₂)
 line-only a b = (a .long ∙ sym (b .long), a .there ∙ sym (b .there))
+
+-- the same where there is one text of the kind
+pub text-only : {Text : List ℕ → Type 0} {row after₁ after₂ : List ℕ} {r s : ℕ} → ((x y : List ℕ) → Text x → Text y → x ≡ y) → TextIn Text row r after₁ → TextIn Text row s after₂
+    → (r ≡ s) × (after₁ ≡ after₂)
+text-only {row = row} {after₂ = after₂} {s = s} one a b =
+    line-only (a .there) (subst (λ (l : List ℕ). LineIn l row s after₂) (one (b .text) (a .text) (b .is) (a .is)) (b .there))

@@ -43,10 +43,20 @@ headerLine = 106 ∷ 111 ∷ 98 ∷ 32 ∷ 97 ∷ 110 ∷ 115 ∷ 119 ∷ 101 �
 
 -- ---- a line in a row
 
+-- no line is longer: four numbers of five digits, with a byte after each
+abbrev pub lineRoom : ℕ
+lineRoom = 24
+
 -- A line of r bytes stands at the front of a row; the bytes after it stay.
 pub record LineIn (line row : List ℕ) (r : ℕ) (after : List ℕ) : Type 0 where
   pub long : r ≡ length line
   pub there : after ≡ line ++ drop (length line) row
+
+-- Text of this kind stands at the front of a row and is so long; the bytes after it stay.
+pub record TextIn (Text : List ℕ → Type 0) (row : List ℕ) (r : ℕ) (after : List ℕ) : Type 0 where
+  pub text : List ℕ
+  pub is : Text text
+  pub there : LineIn text row r after
 
 -- r counts bytes at the front of a row. It follows from LineIn, and is said so that whoever lends the front on has no more to
 -- show.

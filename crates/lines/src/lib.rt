@@ -4,7 +4,11 @@
 // The bytes after it stay. No function asks anything of its caller.
 mod fields;
 
-ghost use Rattle.lines.specs.Lines.{jobLine, variableLine, fileLine, headerLine, LineIn, Counts};
+ghost use Prim.Native.Nat.{_≤_};
+ghost use Rattle.jobfile.specs.Reader.{numberOf, placeOf};
+ghost use Rattle.lines.specs.Lines.{jobLine, variableLine, fileLine, headerLine, lineRoom, LineIn, Counts};
+use jobfile::answers;
+use jobfile::answers::FileAnswer;
 use words::numbers::Address;
 use words::numbers::Label;
 
@@ -12,6 +16,7 @@ use words::numbers::Label;
 pub fn header_line(line: &mut [u8; 24]) -> usize
     ensures { λ r. ⌜ Counts r (now (line .exit)) ⌝ }
     ensures { λ r. ⌜ LineIn headerLine (now (line .entry)) r (now (line .exit)) ⌝ }
+    ensures { λ r. ⌜ r ≤ lineRoom ⌝ }
 {
     rows::copy8(b"job answer place joins\n", line);
     23
@@ -21,6 +26,7 @@ pub fn header_line(line: &mut [u8; 24]) -> usize
 pub fn job_line(job: u16, answer: u16, place: u16, joins: u16, line: &mut [u8; 24]) -> usize
     ensures { λ r. ⌜ Counts r (now (line .exit)) ⌝ }
     ensures { λ r. ⌜ LineIn (jobLine job answer place joins) (now (line .entry)) r (now (line .exit)) ⌝ }
+    ensures { λ r. ⌜ r ≤ lineRoom ⌝ }
 {
     let second = fields::put_field(line, 0, job, b' ');
     let third = fields::put_field(line, second, answer, b' ');
@@ -32,6 +38,7 @@ pub fn job_line(job: u16, answer: u16, place: u16, joins: u16, line: &mut [u8; 2
 pub fn variable_line(at: Address, label: Label, name: Address, line: &mut [u8; 24]) -> usize
     ensures { λ r. ⌜ Counts r (now (line .exit)) ⌝ }
     ensures { λ r. ⌜ LineIn (variableLine (at .0) (label .0) (name .0)) (now (line .entry)) r (now (line .exit)) ⌝ }
+    ensures { λ r. ⌜ r ≤ lineRoom ⌝ }
 {
     rows::copy8(b"v ", line);
     let second = fields::put_field(line, 2, at.0, b' ');
@@ -39,12 +46,13 @@ pub fn variable_line(at: Address, label: Label, name: Address, line: &mut [u8; 2
     fields::put_field(line, last, name.0, b'\n')
 }
 
-// `file`, then the answer and the place of a file's refusal.
-pub fn file_line(answer: u16, place: u16, line: &mut [u8; 24]) -> usize
+// `file`, then the number and the place of the answer by which a file is refused.
+pub fn file_line(answer: FileAnswer, line: &mut [u8; 24]) -> usize
     ensures { λ r. ⌜ Counts r (now (line .exit)) ⌝ }
-    ensures { λ r. ⌜ LineIn (fileLine answer place) (now (line .entry)) r (now (line .exit)) ⌝ }
+    ensures { λ r. ⌜ LineIn (fileLine (numberOf answer) (placeOf answer)) (now (line .entry)) r (now (line .exit)) ⌝ }
+    ensures { λ r. ⌜ r ≤ lineRoom ⌝ }
 {
     rows::copy8(b"file ", line);
-    let last = fields::put_field(line, 5, answer, b' ');
-    fields::put_field(line, last, place, b'\n')
+    let last = fields::put_field(line, 5, answers::file_number(answer), b' ');
+    fields::put_field(line, last, answers::file_place(answer), b'\n')
 }

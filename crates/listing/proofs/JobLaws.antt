@@ -1,123 +1,127 @@
--- Jobs of a file, in rows of their own lengths. In order:
---     what is copied and matched    rows-for-job, job-matched
---     lengths                       job-room, entry-sizes
---     the answers                   good-listed, accepted-room: what is known once an answer is 0
---     the row of the table          front-inside, front-fits: its first n entries, once they have come back
---     one result                    job-only: two results that the contract of match_job allows are equal
--- Assumes nothing.
-use mathlib.Core.Path.{_≡_, refl, sym, ap, _∙_, subst}
+-- A job taken out of its file, matched and told. In order: its rows (`rows-for-job`); what was taken is the job (`job-matched`); an accepted
+-- table fits (`accepted-fits`); the lines are the job's (`job-told`). Assumes nothing.
+use mathlib.Core.Path.{_≡_, refl, sym, ap, ap₂, _∙_, subst}
+use mathlib.Core.Logic.{inr}
 use mathlib.Core.List.{List, [], _++_}
-use Prim.Native.Nat.{ℕ, _+_, _-_, _*_, _/_, _≤_, _<_}
+use Prim.Native.Nat.{ℕ, _+_, _*_, _≤_}
+use native.Mathlib.Decide.{ℕ-discrete, decLe}
 use native.Mathlib.Omega.{arith}
-use lib.ListN.{length, take, drop, getD, length-append}
+use lib.ListN.{length, take, drop}
 use lib.Seq.{take-all, length-take-le}
 use Rattle.words.specs.Limits.{mostWords, mostBytes}
-use Rattle.answering.proofs.Orders.{passed-none, none-parts}
-use Rattle.table.specs.Faults.{Job, Fault, number, checkOrder, listRows, pairRows, matchOrder}
-use Rattle.matcher.specs.Match.{numberOf, placeOf, jobOf, MatchOf}
-use Rattle.matcher.specs.Steps.PassedAll.{PassedAll}
+use Rattle.answering.specs.Answers.{Answered}
+use Rattle.answering.proofs.Orders.{passed-none}
+use Rattle.graphs.specs.Partition.{ClassTable, joins}
+use Rattle.table.specs.Table.{graphOf}
+use Rattle.table.specs.Faults.{sent, Fault, size-fault, number, matchOrder}
+use Rattle.matcher.specs.Match.{numberOf, placeOf, joinsOf, AcceptedWith, MatchOf}
 use Rattle.matcher.specs.declared.answer.Matched.{Matched}
-use Rattle.matcher.proofs.Verdicts.{ready}
-use Rattle.matcher.proofs.OneMatch.{match-only}
-use Rattle.jobfile.specs.File.{countIn, wordsIn, pairsIn, bodyStart, bodyIn, sizesIn, GoodFile}
-use Rattle.jobfile.specs.Numbers.{rowIn}
-use Rattle.jobfile.specs.Jobs.{FileJob, entriesOf, entryOf, RowsForJob, JobTaken}
-use Rattle.jobfile.specs.Reader.{ReadOf, numberOf as fileNumber}
-use Rattle.jobfile.specs.declared.answers.FileAnswer.{FileAnswer}
-use Rattle.jobfile.specs.declared.sizes.Sizes.{Sizes}
+use Rattle.matcher.proofs.OneMatch.{refused-joins}
+use Rattle.jobfile.specs.File.{wordsIn, pairsIn, bodyStart, bodyIn}
+use Rattle.jobfile.specs.Jobs.{FileJob, entriesOf, entryOf, wordsOf, listOf, JobThere, JobTaken}
 use Rattle.jobfile.proofs.NumberLaws.{length-rowIn}
-use Rattle.jobfile.proofs.FileLaws.{length-sizesFrom, entry-in-sizes, next-start}
-use Rattle.jobfile.proofs.JobLaws.{entries-pairs}
-use Rattle.jobfile.proofs.ReaderLaws.{body-inside, good-number}
-use Rattle.jobfile.proofs.Theorems.{reader-accepts-good, good-sizes, job-body}
-use Rattle.listing.specs.Listing.{Entered, RowsOfEntry, jobAt, JobMatched}
+use Rattle.jobfile.proofs.FileLaws.{next-start}
+use Rattle.jobfile.proofs.JobLaws.{pairs-entries, entries-pairs}
+use Rattle.jobfile.proofs.ReaderLaws.{body-inside}
+use Rattle.jobfile.proofs.Theorems.{job-body}
+use Rattle.lines.specs.Lines.{jobLine, LineIn, TextIn}
+use Rattle.listing.specs.Listing.{variableLines, sentFor, JobListed, job-refused, job-accepted}
+use Rattle.listing.specs.Parts.{jobAt}
+use Rattle.listing.specs.Steps.Putting.{jobRoom, answerLine, AnswerTold, RowsOfJob}
+use Rattle.listing.proofs.PutLaws.{lines-front}
 
--- ---- what is copied and matched
-
-abbrev none : FileJob
-none = record { words = []; pairs = [] }
-
-pub rows-for-job : {file table list : List ℕ} {k : ℕ} → RowsOfEntry file k table list → RowsForJob file (k + 1) table list
-rows-for-job {file} {table} {k = k} ((good, there), words, pairs) =
-    let one : k ≡ entryOf (k + 1) = omega arith in
-    record {
-      there = record { good = good; some-job = omega arith; inside = omega arith };
-      words = words ∙ ap (wordsIn file) one;
-      pairs = omega (arith, pairs, ap (pairsIn file) one);
-    }
-
-pub job-matched : {file table list class work class-after work-after : List ℕ} {k : ℕ} {answer : Matched} (lists : List ℕ) → Entered file k → length lists ≡ 2 * pairsIn file k
-    → JobTaken file (k + 1) lists table list → MatchOf table list class work answer class-after work-after → JobMatched file k class work answer table list class-after work-after
-job-matched {file} {table} {list} {class} {work} {class-after} {work-after} {k} {answer} lists entered size taken m =
-    let one : entryOf (k + 1) ≡ k = omega arith in
-    let p : ℕ = pairsIn file k in
-    let bytes : List ℕ = drop (4 * wordsIn file k) (bodyIn file k) in
-    let w : table ≡ jobAt file k .words =
-    taken .0 ∙ ap (λ (i : ℕ). rowIn 4 (wordsIn file i) (bodyIn file i)) one ∙ ap (λ (job : FileJob). job .words) (sym (job-body file k (entered .1) none)) in
-    let e : list ≡ entriesOf (jobAt file k .pairs) =
-    taken .1
-    ∙ ap (λ (i : ℕ). take (length lists) (rowIn 2 (2 * pairsIn file i) (drop (4 * wordsIn file i) (bodyIn file i)))) one
-    ∙ take-all (length lists) (rowIn 2 (2 * p) bytes) (omega (arith, length-rowIn 2 (2 * p) bytes))
-    ∙ sym (entries-pairs p (rowIn 2 (2 * p) bytes) (length-rowIn 2 (2 * p) bytes))
-    ∙ ap (λ (job : FileJob). entriesOf (job .pairs)) (sym (job-body file k (entered .1) none)) in
-    record {
-      words = w;
-      entries = e;
-      matched = subst (λ (l : List ℕ). MatchOf (jobAt file k .words) l class work answer class-after work-after) e (subst (λ (l : List ℕ). MatchOf l list class work answer class-after work-after) w m);
-    }
+-- ---- its rows
 
 -- a file has at most 32,768 bytes
-pub job-room : {file : List ℕ} {k : ℕ} → Entered file k → (wordsIn file k ≤ 8192) × (2 * pairsIn file k ≤ 16384)
-job-room {file} {k} (good, there) =
+pub job-fits : {file : List ℕ} {job : ℕ} → JobThere file job → (wordsOf file job ≤ 8192) × (2 * pairsIn file (entryOf job) ≤ 16384)
+job-fits {file} {job} there =
+    let k : ℕ = entryOf job in
     let fits : 4 * wordsIn file k + 4 * pairsIn file k ≤ mostBytes =
-    omega (arith, next-start file k {start = bodyStart file k} {n = wordsIn file k} {p = pairsIn file k} refl refl refl, body-inside good k there, good .at-most) in
+    omega (arith, next-start file k {start = bodyStart file k} refl refl refl, body-inside (there .good) k (omega (arith, there .some-job, there .inside)), there .good .at-most) in
     (omega arith, omega arith)
 
--- the sizes of an entry, in the row of sizes
-pub entry-sizes : {file sizes : List ℕ} {k : ℕ} → GoodFile file → sizes ≡ sizesIn file → k < length sizes / 2
-    → Entered file k × (getD sizes (2 * k) 0 ≡ wordsIn file k) × (getD sizes (2 * k + 1) 0 ≡ pairsIn file k)
-entry-sizes {file} {sizes} {k} good e h =
-    let there : k < countIn file = omega (arith, ap length e, length-sizesFrom (countIn file) 0 file) in
-    let held = entry-in-sizes file k there in (
-      (good, there),
-      ap (λ (l : List ℕ). getD l (2 * k) 0) e ∙ held .0,
-      ap (λ (l : List ℕ). getD l (2 * k + 1) 0) e ∙ held .1,
-    )
+pub rows-for-job : {file : List ℕ} {job n p entries : ℕ} (table list : List ℕ) {class work row : List ℕ} → JobThere file job → n ≡ wordsOf file job → p ≡ pairsIn file (entryOf job) → entries ≡ 2 * p
+    → n ≤ length table → entries ≤ length list → length class ≡ mostWords → length work ≡ 4 * mostWords → jobRoom ≤ length row
+    → RowsOfJob file job (take n table) (take entries list) class work row
+rows-for-job {n = n} {entries = entries} table list there words pairs all tables lists classes works room =
+    let long : length (take entries list) ≡ entries = length-take-le entries list lists in
+    record {
+      copied = record { there = there; words = length-take-le n table tables ∙ words; pairs = omega (arith, long, all, pairs) };
+      whole = omega (arith, long, all, pairs);
+      classes = classes;
+      works = works;
+      room = room;
+    }
 
--- ---- the answers
+-- ---- what was taken
 
--- a file that is not refused is good, and its sizes are in the row
-pub good-listed : {file : List ℕ} {answer : FileAnswer} {sizes : Sizes} → ReadOf file answer sizes → fileNumber answer ≡ 0
-    → GoodFile file × (take (sizes .count) (sizes .row) ≡ sizesIn file)
-good-listed {answer = answer} read e =
-    let good = reader-accepts-good read .0 (good-number answer e) in (good, good-sizes good read)
+job-matched : {file table list class work row t l class-after work-after : List ℕ} {job : ℕ} {answer : Matched} → RowsOfJob file job table list class work row → JobTaken file job list t l
+    → MatchOf t l class work answer class-after work-after
+    → (t ≡ jobAt file job .words) × MatchOf (jobAt file job .words) (entriesOf (jobAt file job .pairs)) class work answer class-after work-after
+job-matched {file} {list = list} {class} {work} {t = t} {l} {class-after} {work-after} {job} {answer} rows taken m =
+    let k : ℕ = entryOf job in
+    let size : length (listOf file job) ≡ 2 * pairsIn file k = length-rowIn 2 (2 * pairsIn file k) (drop (4 * wordsIn file k) (bodyIn file k)) in
+    let is = job-body file k (omega (arith, rows .copied .there .some-job, rows .copied .there .inside)) (record { words = []; pairs = [] }) in
+    let words : t ≡ jobAt file job .words = taken .0 ∙ ap (λ (j : FileJob). j .words) (sym is) in
+    let entries : l ≡ entriesOf (jobAt file job .pairs) =
+    taken .1
+    ∙ take-all (length list) (listOf file job) (omega (arith, rows .whole, size))
+    ∙ sym (entries-pairs (pairsIn file k) (listOf file job) size)
+    ∙ ap (λ (j : FileJob). entriesOf (j .pairs)) (sym is) in
+    (words, subst (λ (e : List ℕ). MatchOf (jobAt file job .words) e class work answer class-after work-after) entries (subst (λ (w : List ℕ). MatchOf w l class work answer class-after work-after) words m))
 
--- a table that is accepted has room in the class row
-pub accepted-room : {file class work table list class-after work-after : List ℕ} {k : ℕ} {answer : Matched} → JobMatched file k class work answer table list class-after work-after → numberOf answer ≡ 0
-    → (length table ≤ mostWords) × (length table ≤ length class)
+-- ---- an accepted table
+
+pub accepted-fits : {t l class work class-after work-after : List ℕ} {answer : Matched} → MatchOf t l class work answer class-after work-after → numberOf answer ≡ 0 → length t ≤ mostWords
 unfolding number
-accepted-room {file} {class} {work} {k = k} {answer} m z =
-    let job : Job = jobOf (jobAt file k .words) (entriesOf (jobAt file k .pairs)) class work in
-    let has : PassedAll job = ready (none-parts (Fault job) (checkOrder ++ listRows) pairRows (passed-none number (Fault job) matchOrder (numberOf answer) (placeOf answer) refl z (m .matched .answered) .0) .0) in
-    (omega (arith, has .passed .readable .small, ap length (m .words)), omega (arith, has .class-enough, ap length (m .words)))
+accepted-fits {t} {l} {class} {work} {answer = answer} m z = go (decLe (length t) mostWords)
+  where
+    go : Dec (length t ≤ mostWords) → length t ≤ mostWords
+    go (yes h) = h
+    go (no h) =
+        let job = sent t l (length class) (length work) in
+        absurd (passed-none number (Fault job) matchOrder (numberOf answer) (placeOf answer) refl z (m .answered) .0 .0 0 (size-fault (inr (omega arith))))
 
--- ---- the row of the table
+-- ---- its lines
 
--- its first n entries were lent, and came back as front
-module _ {file class work front list class-after work-after : List ℕ} {k : ℕ} {answer : Matched} (row : List ℕ) (n : ℕ) (m : JobMatched file k class work answer front list class-after work-after) (inside : n ≤ length row) (same : length front ≡ length (take n row)) where
-  pub front-inside : n ≤ length (front ++ drop n row)
-  front-inside = omega (arith, length-append front (drop n row), length-take-le n row inside)
+module _ (k : ℕ) (job : FileJob) {class work class-after work-after row after : List ℕ} {answer : Matched} {r : ℕ} (classes : length class ≡ mostWords) (works : length work ≡ 4 * mostWords)
+    (m : MatchOf (job .words) (entriesOf (job .pairs)) class work answer class-after work-after) (told : AnswerTold k answer (job .words) class-after row r after) where
+  answered : Answered number (Fault (sentFor job)) matchOrder (numberOf answer) (placeOf answer)
+  answered =
+      subst (λ (w : ℕ). Answered number (Fault (sent (job .words) (entriesOf (job .pairs)) mostWords w)) matchOrder (numberOf answer) (placeOf answer)) works
+      (subst (λ (c : ℕ). Answered number (Fault (sent (job .words) (entriesOf (job .pairs)) c (length work))) matchOrder (numberOf answer) (placeOf answer)) classes (m .answered))
 
-  pub front-fits : numberOf answer ≡ 0 → length class ≡ mostWords → length class-after ≡ length class
-      → (length (take n (front ++ drop n row)) ≤ length class-after) × (length (take n (front ++ drop n row)) ≤ mostWords)
-  front-fits z room kept =
-      let r = accepted-room m z in
-      let long : length (take n (front ++ drop n row)) ≡ length front = length-take-le n (front ++ drop n row) front-inside ∙ sym (same ∙ length-take-le n row inside) in
-      (omega (arith, r .1), omega (arith, r .0))
+  listed-accepted : numberOf answer ≡ 0 → TextIn (JobListed k job) row r after
+  unfolding number
+  listed-accepted z =
+      let b : AcceptedWith (job .words) (entriesOf (job .pairs)) class class-after (joinsOf answer) = m .bound z in
+      let table : ClassTable (graphOf (job .words)) (job .pairs) (b .table) = subst (λ ps. ClassTable (graphOf (job .words)) ps (b .table)) (pairs-entries (job .pairs)) (b .class-table) in
+      let place : placeOf answer ≡ 0 = passed-none number (Fault (sentFor job)) matchOrder (numberOf answer) (placeOf answer) refl z answered .1 in
+      let line : answerLine k answer ≡ jobLine k 0 0 (joins (graphOf (job .words)) (b .table)) = rw (z, place, b .joins-counted) in
+      let variables : variableLines (job .words) class-after ≡ variableLines (job .words) (b .table) =
+      ap (variableLines (job .words)) (b .row) ∙ lines-front (job .words) (b .table) (drop (length (job .words)) class) (length (job .words)) (omega (arith, table .long)) in
+      record {
+        text = jobLine k 0 0 (joins (graphOf (job .words)) (b .table)) ++ variableLines (job .words) (b .table);
+        is = job-accepted (subst (λ (p : ℕ). Answered number (Fault (sentFor job)) matchOrder 0 p) place (subst (λ (a : ℕ). Answered number (Fault (sentFor job)) matchOrder a (placeOf answer)) z answered)) table;
+        there = subst (λ (text : List ℕ). LineIn text row r after) (ap₂ (λ (f g : List ℕ). f ++ g) line variables) (told .accepted z);
+      }
 
--- ---- one result
+  listed-refused : (numberOf answer ≡ 0 → ⊥) → TextIn (JobListed k job) row r after
+  listed-refused other = record {
+    text = jobLine k (numberOf answer) (placeOf answer) 0;
+    is = job-refused answered other;
+    there = subst (λ (j : ℕ). LineIn (jobLine k (numberOf answer) (placeOf answer) j) row r after) (refused-joins answer other) (told .refused other);
+  }
 
-pub job-only : {file class work table₁ list₁ class₁ work₁ table₂ list₂ class₂ work₂ : List ℕ} {k : ℕ} {r s : Matched} → JobMatched file k class work r table₁ list₁ class₁ work₁
-    → JobMatched file k class work s table₂ list₂ class₂ work₂ → (r ≡ s) × (table₁ ≡ table₂) × (list₁ ≡ list₂) × (class₁ ≡ class₂) × (work₁ ≡ work₂)
-job-only a b =
-    let same = match-only (a .matched) (b .matched) in (same .0, a .words ∙ sym (b .words), a .entries ∙ sym (b .entries), same .1, same .2)
+  job-listed : TextIn (JobListed k job) row r after
+  job-listed = go (ℕ-discrete (numberOf answer) 0)
+    where
+      go : Dec (numberOf answer ≡ 0) → TextIn (JobListed k job) row r after
+      go (yes z) = listed-accepted z
+      go (no other) = listed-refused other
+
+pub job-told : {file table list class work row t l class-after work-after after : List ℕ} {job r : ℕ} {answer : Matched} → RowsOfJob file job table list class work row → JobTaken file job list t l
+    → MatchOf t l class work answer class-after work-after → AnswerTold job answer t class-after row r after → TextIn (JobListed job (jobAt file job)) row r after
+job-told {file} {row = row} {class-after = class-after} {after = after} {job} {r} {answer} rows taken m told =
+    let matched = job-matched rows taken m in
+    job-listed job (jobAt file job) (rows .classes) (rows .works) (matched .1) (subst (λ (t : List ℕ). AnswerTold job answer t class-after row r after) (matched .0) told)

@@ -26,7 +26,7 @@ returns c =
     let two = line-more (field (s .args .answer) SPACE) one (c .before .before .before .before .put-field2 .ensures .0) (c .before .before .before .before .put-field2 .ensures .2) in
     let three = line-more (field (s .args .place) SPACE) two (c .before .before .put-field3 .ensures .0) (c .before .before .put-field3 .ensures .2) in
     let all = line-more (field (s .args .joins) NEWLINE) three (c .put-field4 .ensures .0) (c .put-field4 .ensures .2) in
-    (line-counts (c .put-field4 .result) (c .put-field4 .last .0) (omega arith), all)
+    (line-counts (c .put-field4 .result) (c .put-field4 .last .0) (omega arith), (all, omega arith))
 
 pub job-line-spec : {M : Type 1} → statement M
 job-line-spec =

@@ -30,7 +30,7 @@ returns c =
     let one = line-more (field (s .args .at .0) SPACE) word (c .before .before .before .before .put-field .ensures .0) (c .before .before .before .before .put-field .ensures .2) in
     let two = line-more (field (s .args .label .0) SPACE) one (c .before .before .put-field2 .ensures .0) (c .before .before .put-field2 .ensures .2) in
     let all = line-more (field (s .args .name .0) NEWLINE) two (c .put-field3 .ensures .0) (c .put-field3 .ensures .2) in
-    (line-counts (c .put-field3 .result) (c .put-field3 .last .0) (omega arith), all)
+    (line-counts (c .put-field3 .result) (c .put-field3 .last .0) (omega arith), (all, omega arith))
 
 pub variable-line-spec : {M : Type 1} → statement M
 variable-line-spec =

@@ -1,18 +1,26 @@
 -- `listing::job::match_job` meets its contract. Assumes nothing.
-use Rattle.listing.proofs.JobLaws.{rows-for-job, job-matched}
+use native.Mathlib.Omega.{arith}
+use Rattle.listing.proofs.JobLaws.{accepted-fits, job-told}
 use borrow.Author.Needs.{needs}
 use Rattle.listing.proofs.job.match_job.Statement.{statement}
 use Rattle.listing.proofs.job.match_job.Tie as tie
 
-add-take-job : tie.Need-add-take-job
-add-take-job c = search needs
-
 take-job-requires : tie.Need-take-job-requires
 take-job-requires c κs =
-    let s : tie.Start = search needs in rows-for-job (s .pre)
+    let s : tie.Start = search needs in s .pre .copied
 
 match-list-requires : tie.Need-match-list-requires
 match-list-requires c κs = search needs
+
+cast-put-answer : tie.Need-cast-put-answer
+cast-put-answer c =
+    let s : tie.Start = search needs in omega (arith, s .pre .copied .there .inside, s .pre .copied .there .good .few-jobs)
+
+put-answer-requires : tie.Need-put-answer-requires
+put-answer-requires c κs =
+    let s : tie.Start = search needs in
+    let m : tie.After-match-list = search needs in
+    (λ z. (accepted-fits (m .match-list .ensures) z, omega (arith, accepted-fits (m .match-list .ensures) z, s .pre .classes)), s .pre .room)
 
 same-length : tie.Need-same-length
 same-length c = search needs
@@ -26,22 +34,28 @@ same-length-3 c = search needs
 same-length-4 : tie.Need-same-length-4
 same-length-4 c = search needs
 
+same-length-5 : tie.Need-same-length-5
+same-length-5 c = search needs
+
 returns : tie.Need-returns
 returns c =
     let s : tie.Start = search needs in
     let t : tie.After-take-job = search needs in
     let m : tie.After-match-list = search needs in
-    job-matched (s .args .list .now) (s .pre .0) (s .pre .2) (t .take-job .ensures) (m .match-list .ensures)
+    let p : tie.After-put-answer = search needs in
+    (job-told (s .pre) (t .take-job .ensures) (m .match-list .ensures) (p .put-answer .ensures .0), p .put-answer .ensures .1)
 
 pub match-job-spec : {M : Type 1} → statement M
 match-job-spec =
     tie.close
     (tie.spec
-    add-take-job
     take-job-requires
     match-list-requires
+    cast-put-answer
+    put-answer-requires
     same-length
     same-length-2
     same-length-3
     same-length-4
+    same-length-5
     returns)
