@@ -5,7 +5,7 @@ use crate::repository;
 use std::ffi::OsStr;
 use std::io::Write;
 use std::path::{Path, PathBuf};
-use std::process::{Command, Stdio};
+use std::process::{Command, ExitStatus, Stdio};
 use std::thread;
 
 /// What a program writes for these bytes; it must end well.
@@ -31,6 +31,23 @@ pub fn written_by(program: &str, file: &[u8]) -> Vec<u8> {
 /// What the listing program prints for a file.
 pub fn listing(file: &[u8]) -> String {
     String::from_utf8(written_by("listing", file)).expect("it prints text")
+}
+
+/// How the listing program ends for a file where its standard output goes elsewhere, and what it says on
+/// standard error.
+pub fn listing_into(to: Stdio, file: &[u8]) -> (ExitStatus, String) {
+    let mut child = Command::new(repository().join("target/bin/listing"))
+        .stdin(Stdio::piped())
+        .stdout(to)
+        .stderr(Stdio::piped())
+        .spawn()
+        .expect("the program is there");
+    let mut to_child = child.stdin.take().expect("its input is piped");
+    to_child.write_all(file).expect("it reads its input");
+    drop(to_child);
+    let output = child.wait_with_output().expect("it ends");
+    let said = String::from_utf8(output.stderr).expect("it says text");
+    (output.status, said)
 }
 
 /// Runs a command that must end well, and gives what it prints.

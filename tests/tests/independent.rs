@@ -1,13 +1,16 @@
 //! The station's entries against an independent judge with a unifier of its own, on many random jobs.
 //!
-//! STATION_JOBS says how many, and STATION_SEED from which seed; `make soak` runs millions.
+//! STATION_JOBS says how many, and STATION_SEED from which seed; `make soak` runs millions. The listing
+//! program is compared with the same judge on files of some of them.
 
 use station_tests::independent::compare::compare;
 use station_tests::independent::judge::{judge, wrong_as_replacement, Trees};
+use station_tests::independent::listed;
 use station_tests::independent::seen::Seen;
 use station_tests::independent::terms::{Replacement, TooLarge};
 use station_tests::large_stack::{ended, on_a_large_stack};
 use station_tests::matching::{accepted, example_a, example_b, example_c, refused, Given};
+use station_tests::programs::listing;
 use station_tests::table::{
     argument_count, constant, function, pointer, variable, words, ADDRESS, CLASH, CYCLE, LOOP,
 };
@@ -54,6 +57,28 @@ fn an_independent_unifier_on_many_random_jobs() {
     println!("{} s on {threads} threads", began.elapsed().as_secs());
     seen.print();
     seen.assert_every_answer();
+}
+
+/// The listing program is started anew for each file, so these are fewer.
+const FILES: u64 = 1_000;
+
+#[test]
+fn the_listing_of_random_files() {
+    let seed = setting("STATION_SEED", SEED);
+    let (mut refused, mut listed) = (0, 0);
+    ended(on_a_large_stack(move || {
+        for number in 0..FILES {
+            let file = listed::file(seed, number);
+            let wanted = listed::text(&file);
+            assert_eq!(listing(&file), wanted, "file {number} of seed {seed:#x}");
+            match wanted.starts_with("file ") {
+                true => refused += 1,
+                false => listed += 1,
+            }
+        }
+        println!("{listed} files listed, {refused} refused");
+        assert!(listed > FILES / 2 && refused > FILES / 20);
+    }));
 }
 
 // ---- the judge itself

@@ -2,8 +2,15 @@
 
 use station_tests::jobs::{examples, file_of, Job, MOST_BYTES};
 use station_tests::matching::{constants, example_a, example_c};
-use station_tests::programs::listing;
+use station_tests::programs::{listing, listing_into};
+use station_tests::repository;
 use station_tests::table::{variable, words, MOST_WORDS};
+use std::fs::{File, OpenOptions};
+use std::io;
+use std::process::Command;
+
+/// What is said on standard error where standard output takes no more.
+const NOT_WHOLE: &str = "station-listing: the listing was not written to its end\n";
 
 /// The listing of a good file: the header, then these lines.
 fn good(lines: &[&str]) -> String {
@@ -161,4 +168,42 @@ fn sizes_of_files() {
     over.push(0);
     assert_eq!(listing(&over), "file 12 0\n");
     assert_eq!(listing(&vec![0; 60_000]), "file 12 0\n");
+}
+
+// ---- input that ends early, and output that takes nothing
+
+#[test]
+fn a_file_that_is_cut_short_is_refused() {
+    let file = file_of(&examples());
+    for end in 0..file.len() {
+        let line = listing(&file[..end]);
+        assert!(line.starts_with("file ") && line.lines().count() == 1);
+    }
+}
+
+#[test]
+fn input_that_cannot_be_read() {
+    // a folder can be opened, but not read as a file
+    let folder = File::open("/").expect("it can be opened");
+    let output = Command::new(repository().join("target/bin/listing"))
+        .stdin(folder)
+        .output()
+        .expect("the program is there");
+    assert_eq!(output.stdout, b"file 12 0\n");
+}
+
+/// Its exit status says nothing of this: a program of the kit's cannot choose one.
+#[test]
+fn a_full_device() {
+    let full = OpenOptions::new().write(true).open("/dev/full");
+    let (_, said) = listing_into(full.expect("it is there").into(), &file_of(&examples()));
+    assert_eq!(said, NOT_WHOLE);
+}
+
+#[test]
+fn a_pipe_that_nobody_reads() {
+    let (reader, writer) = io::pipe().expect("there are pipes");
+    drop(reader);
+    let (status, _) = listing_into(writer.into(), &file_of(&examples()));
+    assert!(!status.success(), "{status}");
 }

@@ -6,21 +6,22 @@
 --     good-read-written-again    a good file read and written again has the same bytes
 --     jobs-written, jobs-read-back    jobs written to a file are read back as the same jobs: sizes, words and pairs
 --     job-body                   job k of a file is what its own body holds
+--     cut-not-good               the front of a good file is not good
 --     read-sizes, read-count, read-length    which sizes count, that they are at most 128, and how long their row is
 --
 -- Two results that a public contract allows are equal: `read-only` and `bodies-only` (ReaderLaws.antt), `write-only`
 -- (WriteAnswers.antt). Assumes nothing.
 use mathlib.Core.Path.{_≡_, refl, sym, ap, ap₂, _∙_, subst}
 use mathlib.Core.List.{List, _++_}
-use Prim.Native.Nat.{ℕ, _+_, _-_, _*_, _≤_, _<_}
+use Prim.Native.Nat.{ℕ, zero, suc, _+_, _-_, _*_, _≤_, _<_}
 use native.Mathlib.Omega.{arith}
 use lib.ListN.{length, take, drop, getD, replicate, length-replicate, length-append}
-use lib.Seq.{take-at}
-use Rattle.rows.specs.LittleEndian.{AllBytes}
+use lib.Seq.{take-at, take-take, length-take-le}
+use Rattle.rows.specs.LittleEndian.{fromBytes, numberAt, AllBytes}
 use Rattle.words.specs.Limits.{mostSizes}
 use Rattle.graphs.specs.Partition.{pairsOf}
 use Rattle.jobfile.specs.Numbers.{rowIn}
-use Rattle.jobfile.specs.File.{bodySize, countIn, wordsIn, pairsIn, bodyStart, bodyIn, sizesIn, bodiesIn, GoodFile, fileOf}
+use Rattle.jobfile.specs.File.{bodySize, contentsEnd, countIn, wordsIn, pairsIn, bodyStart, bodyIn, sizesIn, bodiesIn, GoodFile, fileOf}
 use Rattle.jobfile.specs.Jobs.{FileJob, sizesOf, bodiesOf, fileOfJobs, Holdable, jobIn, jobsFrom, jobsIn}
 use Rattle.jobfile.specs.Reader.{Judged, yieldedSizes, yieldedBodies, inRow, Holds, ReadOf, BodiesOf}
 use Rattle.jobfile.specs.Writer.{WriteOf, roomWritten}
@@ -121,6 +122,26 @@ job-body bytes k there d =
     job-there (countIn bytes) 0 k bytes d there
     ∙ ap (λ (i : ℕ). jobIn (wordsIn bytes i) (pairsIn bytes i) (drop (bodyStart bytes i) bytes)) way
     ∙ ap₂ (λ (ws es : List ℕ). record { words = ws; pairs = pairsOf es }) words entries
+
+-- ---- a file that is cut short
+
+module _ (m : ℕ) (bytes : List ℕ) where
+  number-in-front : (k at : ℕ) → at + k ≤ m → numberAt k at (take m bytes) ≡ numberAt k at bytes
+  unfolding numberAt
+  number-in-front k at h = ap (λ (l : List ℕ). fromBytes (take k l)) (drop-take at m bytes) ∙ ap fromBytes (take-take k (m - at) (drop at bytes) (omega arith))
+
+  starts-in-front : countIn (take m bytes) ≡ countIn bytes → (k : ℕ) → 2 + 6 * k ≤ m → bodyStart (take m bytes) k ≡ bodyStart bytes k
+  unfolding bodyStart
+  starts-in-front e zero h = ap contentsEnd e
+  starts-in-front e (suc k) h = omega (arith, starts-in-front e k (omega arith), number-in-front 2 (2 + 6 * k + 2) (omega arith), number-in-front 2 (2 + 6 * k + 4) (omega arith))
+
+-- the front of a good file is not good, so input that ends early is refused
+pub cut-not-good : {bytes : List ℕ} {m : ℕ} → GoodFile bytes → m < length bytes → GoodFile (take m bytes) → ⊥
+cut-not-good {bytes} {m} good h cut =
+    let size : length (take m bytes) ≡ m = length-take-le m bytes (omega arith) in
+    let count : countIn (take m bytes) ≡ countIn bytes = number-in-front m bytes 2 0 (omega (arith, cut .at-least, size)) in
+    let starts = starts-in-front m bytes count (countIn bytes) (omega (arith, cut .contents-inside, size, count)) in
+    omega (arith, good .ends, cut .ends, size, ap (bodyStart (take m bytes)) count, starts)
 
 -- ---- the sizes that count
 

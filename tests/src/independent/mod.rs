@@ -11,6 +11,7 @@ pub mod host;
 pub mod jobfile;
 pub mod jobs;
 pub mod judge;
+pub mod listed;
 pub mod lists;
 pub mod partition;
 pub mod replacement;
