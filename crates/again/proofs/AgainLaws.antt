@@ -1,5 +1,5 @@
--- A file that was read and written (`read-written`); what is put into the room (`put-again`, `put-refused`); one result (`again-only`).
--- Assumes nothing.
+-- A file that was read and written (`read-written`); what is put into the room (`put-again`, `put-refused`); one result
+-- (`again-only`). Assumes nothing.
 use mathlib.Core.Path.{_≡_, refl, ap, ap₂, _∙_, subst}
 use mathlib.Core.Logic.{inl, inr}
 use mathlib.Core.List.{List, []}

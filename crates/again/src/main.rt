@@ -18,7 +18,7 @@ fn write_again(file: &[u8]) -> bool {
 
 // A file has at most 32,768 bytes; one byte more is read, so that a longer one is refused and not cut short.
 fn main() {
-    let mut file = [0u8; 32769];
+    let mut file = [0u8; MOST_BYTES + 1];
     let size = io::read_full(STDIN_FILENO, &mut file);
     if !write_again(&file[..size]) {
         io::write_all(

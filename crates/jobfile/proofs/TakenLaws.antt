@@ -1,5 +1,5 @@
 -- What is copied out of a body. In order:
---     numbers, over their width    next-taken: what a turn copies; all-taken: what a loop leaves; taken-full: a row that is filled
+--     numbers, over their width    next-taken: what a turn copies; all-taken: what a loop leaves; taken-full: a full row
 --     a job                        body-ends, body-there: its body; part-size, job-taken: its words and addresses, out of it
 -- Assumes nothing.
 use mathlib.Core.Path.{_≡_, refl, sym, ap, ap₂, _∙_}

@@ -52,7 +52,9 @@ pub fn file_line(answer: FileAnswer, line: &mut [u8; 24]) -> usize
     ensures { λ r. ⌜ LineIn (fileLine (numberOf answer) (placeOf answer)) (now (line .entry)) r (now (line .exit)) ⌝ }
     ensures { λ r. ⌜ r ≤ lineRoom ⌝ }
 {
+    let number = answers::file_number(answer);
+    let place = answers::file_place(answer);
     rows::copy8(b"file ", line);
-    let last = fields::put_field(line, 5, answers::file_number(answer), b' ');
-    fields::put_field(line, last, answers::file_place(answer), b'\n')
+    let last = fields::put_field(line, 5, number, b' ');
+    fields::put_field(line, last, place, b'\n')
 }

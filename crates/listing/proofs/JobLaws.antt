@@ -1,5 +1,5 @@
--- A job taken out of its file, matched and told. In order: its rows (`rows-for-job`); what was taken is the job (`job-matched`); an accepted
--- table fits (`accepted-fits`); the lines are the job's (`job-told`). Assumes nothing.
+-- A job taken out of its file, matched and told. In order: its rows (`rows-for-job`); what was taken is the job (`job-matched`);
+-- an accepted table fits (`accepted-fits`); the lines are the job's (`job-told`). Assumes nothing.
 use mathlib.Core.Path.{_≡_, refl, sym, ap, ap₂, _∙_, subst}
 use mathlib.Core.Logic.{inr}
 use mathlib.Core.List.{List, [], _++_}

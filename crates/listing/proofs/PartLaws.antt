@@ -1,5 +1,5 @@
--- The parts of a listing by the reader's answer. In order: the first line (`refusal-first`, `header-first`); how many jobs there are
--- (`jobs-told`); the job of a number (`job-there`, `sizes-there`, `no-job`, `part-there`, `part-nowhere`). Assumes nothing.
+-- The parts of a listing by the reader's answer. In order: the first line (`header-first`, `refusal-first`); how many jobs there
+-- are (`jobs-told`); the job of a number (`job-there`, `sizes-there`, `no-job`, `part-there`, `part-nowhere`). Assumes nothing.
 use mathlib.Core.Path.{_≡_, refl, ap, _∙_, subst}
 use mathlib.Core.List.{List, []}
 use Prim.Native.Nat.{ℕ, _+_, _-_, _*_, _/_, _≤_, _<_}

@@ -1,7 +1,7 @@
 -- What follows from the contracts. In order:
 --     one listing     job-listed-only, listing-only: a file has one listing
---     one part        first-line-only, jobs-told-only, job-part-only: two results that a contract of src/parts.rt allows are equal, by
---                     `text-only` of lines
+--     one part        first-line-only, jobs-told-only, job-part-only: with `text-only` of lines, two results that a contract
+--                     of src/parts.rt allows are equal
 --     the whole       inOrder, parts-make-listing: the parts one after the other are the listing
 -- Assumes nothing.
 use mathlib.Core.Path.{_≡_, refl, sym, ap, ap₂, _∙_, subst}
@@ -134,7 +134,7 @@ module _ {file : List ℕ} {jobs : ℕ} (told : JobsTold file jobs) where
       subst (λ (j : ℕ). JobListed (1 + i) (getD (jobsIn file) j (record { words = []; pairs = [] })) (part (1 + i))) way
       (job-part-listed good (omega arith) (omega (arith, count)) (each-part (1 + i) (omega arith) (omega (arith, all)))))))
 
--- What the program writes, by the contracts of src/parts.rt: the counted bytes of the first row, and of the row of each job in order.
+-- What the program writes, by the contracts of src/parts.rt: the counted bytes of the first row, and then of each job's row.
 pub parts-make-listing : {file first-row first-after : List ℕ} {first jobs : ℕ} (row after : ℕ → List ℕ) (size : ℕ → ℕ) → TextIn (FirstLine file) first-row first first-after → JobsTold file jobs
     → ((job : ℕ) → 1 ≤ job → job ≤ jobs → TextIn (JobPart file job) (row job) (size job) (after job))
     → ListingOf file (take first first-after ++ inOrder (λ job. take (size job) (after job)) 1 jobs)

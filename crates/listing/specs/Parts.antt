@@ -1,5 +1,5 @@
--- The parts that a listing is written in: its first line, and the lines of each job. Put one after the other they are the listing
--- (`parts-make-listing`, proofs/Theorems.antt). Assumes nothing.
+-- The parts that a listing is written in: its first line, and the lines of each job. Put one after the other they are the
+-- listing (`parts-make-listing`, proofs/Theorems.antt). Assumes nothing.
 use mathlib.Core.Path.{_≡_}
 use mathlib.Core.List.{List, []}
 use Prim.Native.Nat.{ℕ}

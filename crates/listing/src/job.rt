@@ -12,6 +12,7 @@ ghost use Rattle.listing.specs.Steps.Putting.{jobRoom, Tellable, answerL
 use crate::variables;
 use matcher::answer;
 use matcher::answer::Matched;
+use words::limits::MOST_BYTES;
 use words::limits::MOST_WORDS;
 
 // Puts the line of a job over the front of row, and returns its length.
@@ -61,13 +62,14 @@ fn match_job(
     put_answer(job as u16, answer, table, class, row)
 }
 
-// The lines of the job of n words and p pairs. The rows are new for each job, so nothing of the last one is there.
+// The lines of the job of n words and p pairs. The rows are new for each job, so nothing of the last one is there, and have room
+// for all words and all addresses that a file can hold.
 pub(crate) fn put_job_lines(file: &[u8], job: usize, n: usize, p: usize, row: &mut [u8]) -> usize
     requires { ⌜ JobThere (now file) job × (n ≡ wordsOf (now file) job) × (p ≡ pairsIn (now file) (entryOf job)) × (jobRoom ≤ length (now row)) ⌝ }
     ensures { λ r. ⌜ TextIn (JobListed job (jobAt (now (file .entry)) job)) (now (row .entry)) r (now (row .exit)) × (r ≤ jobRoom) ⌝ }
 {
-    let mut table = [0u32; 8192];
-    let mut list = [0u16; 16384];
+    let mut table = [0u32; MOST_BYTES / 4];
+    let mut list = [0u16; MOST_BYTES / 2];
     let mut class = [0u16; MOST_WORDS];
     let mut work = [0u16; 4 * MOST_WORDS];
     let entries = 2 * p;

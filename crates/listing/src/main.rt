@@ -10,6 +10,7 @@ use libc::STDERR_FILENO;
 use libc::STDIN_FILENO;
 use libc::STDOUT_FILENO;
 use parts::JOB_ROOM;
+use words::limits::MOST_BYTES;
 
 // Writes the first line, and says whether all of it was written.
 fn write_first_line(file: &[u8]) -> bool {
@@ -41,7 +42,7 @@ fn write_listing(file: &[u8]) -> bool {
 
 // A file has at most 32,768 bytes; one byte more is read, so that a longer one is refused and not cut short.
 fn main() {
-    let mut file = [0u8; 32769];
+    let mut file = [0u8; MOST_BYTES + 1];
     let size = io::read_full(STDIN_FILENO, &mut file);
     if !write_listing(&file[..size]) {
         io::write_all(

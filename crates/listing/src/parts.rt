@@ -1,4 +1,4 @@
-// The parts of a listing, each put over the front of a lent row; each function returns how many bytes it put there, and the bytes
+// The parts of a listing, each put over the front of a lent row; a function returns how many bytes it put there, and the bytes
 // after them stay. None asks anything of its caller.
 ghost use Rattle.lines.specs.Lines.{TextIn, Counts};
 ghost use Rattle.listing.specs.Parts.{FirstLine, JobsTold, JobPart};

@@ -9,20 +9,20 @@ use borrow.Author.Needs.{needs}
 use Rattle.lines.proofs.file_line.Statement.{statement}
 use Rattle.lines.proofs.file_line.Tie as tie
 
+file-number-requires : tie.Need-file-number-requires
+file-number-requires c κs = search needs
+
+file-place-requires : tie.Need-file-place-requires
+file-place-requires c κs = search needs
+
 slice-aggregate-copy8 : tie.Need-slice-aggregate-copy8
 slice-aggregate-copy8 c = search needs
 
 copy8-requires : tie.Need-copy8-requires
 copy8-requires c κs = search needs
 
-file-number-requires : tie.Need-file-number-requires
-file-number-requires c κs = search needs
-
 put-field-requires : tie.Need-put-field-requires
 put-field-requires c κs = search needs
-
-file-place-requires : tie.Need-file-place-requires
-file-place-requires c κs = search needs
 
 put-field-requires-2 : tie.Need-put-field-requires-2
 put-field-requires-2 c κs = search needs
@@ -45,4 +45,4 @@ returns c =
 pub file-line-spec : {M : Type 1} → statement M
 file-line-spec =
     tie.close
-    (tie.spec slice-aggregate-copy8 copy8-requires file-number-requires put-field-requires file-place-requires put-field-requires-2 returns)
+    (tie.spec file-number-requires file-place-requires slice-aggregate-copy8 copy8-requires put-field-requires put-field-requires-2 returns)

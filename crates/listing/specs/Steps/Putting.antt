@@ -29,7 +29,7 @@ Tellable table class = (length table ≤ mostWords) × (length table ≤ length 
 abbrev pub answerLine : ℕ → Matched → List ℕ
 answerLine job answer = jobLine job (numberOf answer) (placeOf answer) (joinsOf answer)
 
--- that line at the front of a row, and after an accepted job the lines of its variables, by the class entries that the match left
+-- that line at the front of a row, and after an accepted job the lines of its variables, by the class entries after the match
 pub record AnswerTold (job : ℕ) (answer : Matched) (table class row : List ℕ) (r : ℕ) (after : List ℕ) : Type 0 where
   pub accepted : numberOf answer ≡ 0 → LineIn (answerLine job answer ++ variableLines table class) row r after
   pub refused : (numberOf answer ≡ 0 → ⊥) → LineIn (answerLine job answer) row r after

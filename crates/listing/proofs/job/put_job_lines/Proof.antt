@@ -1,4 +1,4 @@
--- `listing::job::put_job_lines` meets its contract: a file has no more words or pairs than the rows have room for. Assumes nothing.
+-- `listing::job::put_job_lines` meets its contract: the rows have room for all words or pairs of a file. Assumes nothing.
 use mathlib.Core.Path.{sym, refl}
 use native.Mathlib.Omega.{arith}
 use lib.ListN.{length}
