@@ -24,7 +24,7 @@ use Rattle.table.specs.Readable.{Readable}
 use Rattle.table.proofs.PassedCheck.{no-fault-readable}
 use Rattle.checker.specs.declared.answer.Checked.{Checked}
 use Rattle.checker.specs.declared.answer.Checked.the-variants.{Accepted, Refused}
-use Rattle.checker.specs.Check.{numberOf, placeOf, jobOf, CheckOf}
+use Rattle.checker.specs.Check.{numberOf, placeOf, checkedJob, CheckOf}
 use Rattle.checker.specs.Steps.Names.{RestStays, FirstRepeated}
 use Rattle.checker.specs.Steps.Sound.{SoundTable}
 use Rattle.checker.specs.Steps.Stage.{ByRows, SizeAndRoom, Stage}
@@ -127,14 +127,14 @@ module _ (t class work : List ℕ) where
   unfolding number left changesNothing
   check-size h = record { answered = inl (refl, size-fault h); class-left = refl; work-left = refl }
 
-  no-size : 0 < length t → length t ≤ mostWords → (p : ℕ) → Fault (jobOf t class work) SIZE p → ⊥
+  no-size : 0 < length t → length t ≤ mostWords → (p : ℕ) → Fault (checkedJob t class work) SIZE p → ⊥
   no-size l u p (size-fault h) = ⊎-elim (λ e. omega arith) (λ e. omega arith) h
 
   pub check-room : 0 < length t → length t ≤ mostWords → (length class < length t) ⊎ (length work < 4 * length t) → CheckOf t class work (Refused Room) class work
   unfolding number left changesNothing
   check-room l u h = record { answered = inr (no-size l u, inl (refl, room-fault h)); class-left = refl; work-left = refl }
 
-  no-room : SizeAndRoom t class work → (p : ℕ) → Fault (jobOf t class work) ROOM p → ⊥
+  no-room : SizeAndRoom t class work → (p : ℕ) → Fault (checkedJob t class work) ROOM p → ⊥
   no-room roomy p (room-fault h) = ⊎-elim (λ e. omega (arith, roomy .class-enough)) (λ e. omega (arith, roomy .work-enough)) h
 
   -- The answer by the rows from 3 on, with both rows cleared, is the check's.

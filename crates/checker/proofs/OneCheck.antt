@@ -17,7 +17,7 @@ use Rattle.table.specs.Faults.{Job, sent, Fault, number, checkOrder}
 use Rattle.table.proofs.OneAnswer.{fault-once}
 use Rattle.checker.specs.declared.answer.Checked.{Checked}
 use Rattle.checker.specs.declared.answer.Checked.the-variants.{Accepted, Refused}
-use Rattle.checker.specs.Check.{numberOf, placeOf, jobOf, CheckOf}
+use Rattle.checker.specs.Check.{numberOf, placeOf, checkedJob, CheckOf}
 
 -- the answer that has a number and a place
 answerWith : ℕ → ℕ → Checked
@@ -38,10 +38,10 @@ numbers-fix-answer r s n p = sym (answer-by-numbers r) ∙ ap₂ answerWith n p 
 pub check-answer-only : {t class₁ work₁ class₂ work₂ : List ℕ} {r s : Checked} {after₁ rest₁ after₂ rest₂ : List ℕ} → length class₁ ≡ length class₂ → length work₁ ≡ length work₂
     → CheckOf t class₁ work₁ r after₁ rest₁ → CheckOf t class₂ work₂ s after₂ rest₂ → r ≡ s
 check-answer-only {t} {class₁} {work₁} {class₂} {work₂} {r} {s} class-long work-long a b =
-    let there : Answered number (Fault (jobOf t class₁ work₁)) checkOrder (numberOf s) (placeOf s) =
+    let there : Answered number (Fault (checkedJob t class₁ work₁)) checkOrder (numberOf s) (placeOf s) =
     subst (λ (job : Job). Answered number (Fault job) checkOrder (numberOf s) (placeOf s)) (sym (ap₂ (sent t []) class-long work-long)) (b .answered) in
     let same : (numberOf r ≡ numberOf s) × (placeOf r ≡ placeOf s) =
-    answered-only number (Fault (jobOf t class₁ work₁)) (fault-once (jobOf t class₁ work₁)) checkOrder (numberOf r) (placeOf r) (numberOf s) (placeOf s) (a .answered) there in
+    answered-only number (Fault (checkedJob t class₁ work₁)) (fault-once (checkedJob t class₁ work₁)) checkOrder (numberOf r) (placeOf r) (numberOf s) (placeOf s) (a .answered) there in
     numbers-fix-answer r s (same .0) (same .1)
 
 pub check-only : {t class work : List ℕ} {r s : Checked} {class₁ work₁ class₂ work₂ : List ℕ} → CheckOf t class work r class₁ work₁ → CheckOf t class work s class₂ work₂

@@ -28,11 +28,11 @@ joinsOf answer = 0
 -- ---- the check
 
 -- "The table check by itself takes the same buffers": a job with no list
-abbrev pub jobOf : List ℕ → List ℕ → List ℕ → Job
-jobOf t class work = sent t [] (length class) (length work)
+abbrev pub checkedJob : List ℕ → List ℕ → List ℕ → Job
+checkedJob t class work = sent t [] (length class) (length work)
 
 -- "gives 0 to 7 by the same rules"
 pub record CheckOf (t class work : List ℕ) (answer : Checked) (class-after work-after : List ℕ) : Type 0 where
-  pub answered : Answered number (Fault (jobOf t class work)) checkOrder (numberOf answer) (placeOf answer)
+  pub answered : Answered number (Fault (checkedJob t class work)) checkOrder (numberOf answer) (placeOf answer)
   pub class-left : class-after ≡ left (numberOf answer) (length t) class
   pub work-left : work-after ≡ left (numberOf answer) (4 * length t) work

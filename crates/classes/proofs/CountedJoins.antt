@@ -59,17 +59,17 @@ parted false true = refl
 parted false false = refl
 
 -- how many of the first x addresses are nodes with another name than their own
-pub record Counted (t row : List ℕ) (joined x : ℕ) : Type 0 where
+pub record CountedBelow (t row : List ℕ) (joined x : ℕ) : Type 0 where
   pub so-far : joined + count (ownNode (graphOf t) row) x ≡ count (λ y. isNode (graphOf t .head y)) x
   pub few : joined ≤ x
   pub within : x ≤ length t
 
-pub counted-none : (t row : List ℕ) → Counted t row 0 0
+pub counted-none : (t row : List ℕ) → CountedBelow t row 0 0
 unfolding count
 counted-none t row = record { so-far = refl; few = omega arith; within = omega arith }
 
-pub counted-more : {t row : List ℕ} {joined more x : ℕ} → Counted t row joined x → x < length t
-    → more ≡ joined + bit (isNode (graphOf t .head x) && not (eqb (entry row x) x)) → Counted t row more (x + 1)
+pub counted-more : {t row : List ℕ} {joined more x : ℕ} → CountedBelow t row joined x → x < length t
+    → more ≡ joined + bit (isNode (graphOf t .head x) && not (eqb (entry row x) x)) → CountedBelow t row more (x + 1)
 unfolding count bit
 counted-more {t} {row} {joined} {more} {x} c h e =
     record {
@@ -82,7 +82,7 @@ counted-more {t} {row} {joined} {more} {x} c h e =
     small true = omega arith
     small false = omega arith
 
-pub counted-all : {t row : List ℕ} {joined x : ℕ} → Counted t row joined x → length t ≤ x → joined ≡ joins (graphOf t) row
+pub counted-all : {t row : List ℕ} {joined x : ℕ} → CountedBelow t row joined x → length t ≤ x → joined ≡ joins (graphOf t) row
 unfolding joins nodes classes
 counted-all {t} {row} {joined} {x} c h =
     let end : x ≡ length t = omega (arith, c .within) in

@@ -18,7 +18,7 @@ use Rattle.graphs.specs.Term.{WellCounted, Replacement, _then_, Unifies, Follow
 use Rattle.table.specs.Table.{TableSymbols, graphOf}
 use Rattle.table.specs.Faults.{Fault, number, checkOrder, matchOrder}
 use Rattle.checker.specs.declared.answer.Checked.{Checked}
-use Rattle.checker.specs.Check.{numberOf as checkNumber, placeOf as checkPlace, jobOf as checkedJob}
+use Rattle.checker.specs.Check.{numberOf as checkNumber, placeOf as checkPlace, checkedJob}
 use Rattle.matcher.specs.declared.answer.Matched.{Matched}
 use Rattle.matcher.specs.Match.{numberOf, placeOf, joinsOf, Passes, jobOf}
 use Rattle.matcher.specs.Demands.{Met, MetCounted, FirstUnmet}

@@ -33,7 +33,7 @@ use Rattle.jobfile.specs.File.{bodyIn}
 use Rattle.jobfile.specs.Faults.{fileNumber, readOrder}
 use Rattle.jobfile.proofs.NumberLaws.{length-rowIn}
 use Rattle.jobfile.specs.Jobs.{entryOf, wordsOf, tableOf, listOf}
-use Rattle.host.specs.Host.{jobOf, of-file, of-match, hostNumber, HostFault, size-fault, callRows, earlyOrder, hostOrder, HostOf}
+use Rattle.host.specs.Host.{calledJob, of-file, of-match, hostNumber, HostFault, size-fault, callRows, earlyOrder, hostOrder, HostOf}
 use Rattle.host.proofs.ChoiceLaws.{to-match, none-of-match}
 use Rattle.host.proofs.JobLaws.{sizes-pass}
 use Rattle.demands.specs.HostPasses.{HostPasses}
@@ -51,18 +51,18 @@ module _ {bytes : List ℕ} {job : ℕ} {room : List ℕ} (passes : HostPasses b
 
   -- ---- the rows that the host call passes over
 
-  pub late : (a p : ℕ) → Answered hostNumber (HostFault bytes job room) hostOrder a p → Answered matchNumber (Fault (jobOf bytes job)) pairRows a p
+  pub late : (a p : ℕ) → Answered hostNumber (HostFault bytes job room) hostOrder a p → Answered matchNumber (Fault (calledJob bytes job)) pairRows a p
   late a p x =
       to-match bytes job room pairRows a p refl
       (rest-answers hostNumber (HostFault bytes job room) (earlyOrder ++ map of-match (tableRows ++ listRows)) (map of-match pairRows) a p passes x)
 
   -- ---- its job passes the checks of a match
 
-  pub passes-match : Passes (jobOf bytes job)
+  pub passes-match : Passes (calledJob bytes job)
   passes-match =
       let parts = none-parts (HostFault bytes job room) earlyOrder (map of-match (tableRows ++ listRows)) passes in
       let call = none-parts (HostFault bytes job room) (map of-file readOrder) callRows (parts .0) .1 in
-      none-both (Fault (jobOf bytes job)) sizeRows (tableRows ++ listRows) (sizes-pass bytes job (λ x. call .1 .0 0 (size-fault x))) (none-of-match bytes job room (tableRows ++ listRows) refl (parts .1))
+      none-both (Fault (calledJob bytes job)) sizeRows (tableRows ++ listRows) (sizes-pass bytes job (λ x. call .1 .0 0 (size-fault x))) (none-of-match bytes job room (tableRows ++ listRows) refl (parts .1))
 
   -- ---- the answer of that match
 
@@ -73,9 +73,9 @@ module _ {bytes : List ℕ} {job : ℕ} {room : List ℕ} (passes : HostPasses b
     place-is : placeOf r ≡ p
     joins-is : joinsOf r ≡ j
     late-is : changesNothing (numberOf r) ≡ false
-    answered : Answered matchNumber (Fault (jobOf bytes job)) matchOrder a p
+    answered : Answered matchNumber (Fault (calledJob bytes job)) matchOrder a p
 
-  told : {a p j : ℕ} → ((a ≡ 0 → ⊥) → j ≡ 0) → Answered matchNumber (Fault (jobOf bytes job)) pairRows a p → Told a p j
+  told : {a p j : ℕ} → ((a ≡ 0 → ⊥) → j ≡ 0) → Answered matchNumber (Fault (calledJob bytes job)) pairRows a p → Told a p j
   unfolding matchNumber changesNothing
   told {a} {p} {j} zero-joins (inl (e, f)) = record {
     r = ClashAt (record { 0 = p });
@@ -113,7 +113,7 @@ module _ {bytes : List ℕ} {job : ℕ} {room : List ℕ} (passes : HostPasses b
   long : length table ≡ wordsOf bytes job
   long = length-rowIn 4 (wordsOf bytes job) (bodyIn bytes (entryOf job))
 
-  same-job : lentJob table (listOf bytes job) class work ≡ jobOf bytes job
+  same-job : lentJob table (listOf bytes job) class work ≡ calledJob bytes job
   same-job = ap₂ (sent table (listOf bytes job)) (length-replicate {A = ℕ} (wordsOf bytes job) 0) (length-replicate {A = ℕ} (4 * wordsOf bytes job) 0)
 
   module _ {a : ℕ} {room-after : List ℕ} (h : HostOf bytes job room a room-after) where
@@ -134,8 +134,8 @@ module _ {bytes : List ℕ} {job : ℕ} {room : List ℕ} (passes : HostPasses b
     as-match = record {
       answered =
           subst (λ (j : Job). Answered matchNumber (Fault j) matchOrder (numberOf matched) (placeOf matched)) (sym same-job)
-          (subst (λ (n : ℕ). Answered matchNumber (Fault (jobOf bytes job)) matchOrder n (placeOf matched)) (sym (as-told .number-is))
-          (subst (λ (p : ℕ). Answered matchNumber (Fault (jobOf bytes job)) matchOrder a p) (sym (as-told .place-is)) (as-told .answered)));
+          (subst (λ (n : ℕ). Answered matchNumber (Fault (calledJob bytes job)) matchOrder n (placeOf matched)) (sym (as-told .number-is))
+          (subst (λ (p : ℕ). Answered matchNumber (Fault (calledJob bytes job)) matchOrder a p) (sym (as-told .place-is)) (as-told .answered)));
       bound = λ z. let b = h .bound (sym (as-told .number-is) ∙ z) in record {
         table = h .classes;
         class-table = b .class-table;

@@ -15,7 +15,7 @@ use Rattle.answering.proofs.BufferLaws.{left-same, left-zeroed}
 use Rattle.graphs.proofs.Classes.{never}
 use Rattle.table.specs.Faults.{Job, Row, Fault, room-fault, number, sizeRows, tableRows, listRows, pairRows}
 use Rattle.checker.specs.declared.answer.Checked.{Checked}
-use Rattle.checker.specs.Check.{CheckOf, numberOf as checkNumber, placeOf as checkPlace, jobOf as checkedJob}
+use Rattle.checker.specs.Check.{CheckOf, numberOf as checkNumber, placeOf as checkPlace, checkedJob}
 use Rattle.matcher.specs.declared.answer.Matched.{Matched}
 use Rattle.matcher.specs.Match.{numberOf, placeOf, MatchOf, jobOf}
 use Rattle.matcher.proofs.Verdicts.{at-most}

@@ -25,7 +25,7 @@ use Rattle.table.specs.Table.{graphOf}
 use Rattle.table.specs.Faults.{Job, Fault, size-fault, room-fault, word-fault, layout-fault, pointer-fault, name-fault, loop-fault, list-fault, address-fault, clash-fault, cycle-fault, SIZE, LIST, number, checkOrder, listRows, pairRows, matchOrder}
 use Rattle.table.proofs.Readable.{inside-kind}
 use Rattle.classes.proofs.ClassTables.{count-below}
-use Rattle.checker.specs.Check.{numberOf as checkNumber, placeOf as checkPlace, jobOf as checkedJob}
+use Rattle.checker.specs.Check.{numberOf as checkNumber, placeOf as checkPlace, checkedJob}
 use Rattle.checker.proofs.Stages.{break-within}
 use Rattle.matcher.specs.declared.answer.Matched.{Matched}
 use Rattle.matcher.specs.Match.{numberOf, placeOf, joinsOf, MatchOf, jobOf}

@@ -18,7 +18,7 @@ use Rattle.jobfile.specs.Numbers.{bytesOfRow, rowIn}
 use Rattle.jobfile.specs.File.{countIn, bodyStart, bodiesSize, contentsOf, fileOf, GoodFile}
 use Rattle.jobfile.proofs.Written.{written-good}
 use Rattle.jobfile.specs.Jobs.{wordsOf}
-use Rattle.host.specs.Host.{jobOf, of-match, HostFault, match-fault, earlyOrder, HostOf}
+use Rattle.host.specs.Host.{calledJob, of-match, HostFault, match-fault, earlyOrder, HostOf}
 use Rattle.host.proofs.ChoiceLaws.{none-early}
 use Rattle.sheet.specs.Sheet.{exampleA, exampleB}
 use Rattle.sheet.proofs.Theorems.{sheet-holds}
@@ -43,22 +43,22 @@ good : GoodFile twoJobs
 unfolding twoJobs sizes bodies fileOf contentsOf bytesOfRow bytesOf bodiesSize
 good = written-good {sizes = sizes} {bodies = bodies} (record { even = refl; some-job = omega arith; few-jobs = omega arith; sum = refl; short = omega arith })
 
-first-job : jobOf twoJobs 1 ≡ sent exampleA (1 ∷ 9 ∷ []) 17 68
+first-job : calledJob twoJobs 1 ≡ sent exampleA (1 ∷ 9 ∷ []) 17 68
 unfolding twoJobs sizes bodies fileOf contentsOf bytesOfRow bytesOf fromBytes numberAt rowIn bodyStart
 first-job = refl
 
-second-job : jobOf twoJobs 2 ≡ sent exampleB (1 ∷ 3 ∷ []) 4 16
+second-job : calledJob twoJobs 2 ≡ sent exampleB (1 ∷ 3 ∷ []) 4 16
 unfolding twoJobs sizes bodies fileOf contentsOf bytesOfRow bytesOf fromBytes numberAt rowIn bodyStart
 second-job = refl
 
 -- ---- the checks
 
 -- none of the match's rows applies to a job, so none of them to the call
-match-none : (bytes room : List ℕ) (job : ℕ) (rows : List Row) → NoneOf (Fault (jobOf bytes job)) rows → NoneOf (HostFault bytes job room) (map of-match rows)
+match-none : (bytes room : List ℕ) (job : ℕ) (rows : List Row) → NoneOf (Fault (calledJob bytes job)) rows → NoneOf (HostFault bytes job room) (map of-match rows)
 match-none bytes room job [] none = tt
 match-none bytes room job (row ∷ rows) none = (λ p f. none .0 p (out f), match-none bytes room job rows (none .1))
   where
-    out : {p : ℕ} → HostFault bytes job room (of-match row) p → Fault (jobOf bytes job) row p
+    out : {p : ℕ} → HostFault bytes job room (of-match row) p → Fault (calledJob bytes job) row p
     out (match-fault f) = f
 
 -- what is accepted, or refused for its pairs, passes the checks before them
@@ -74,7 +74,7 @@ checks-pass {job} {a} {p} late x = go late (answered-parts number (Fault job) (c
     go l (inr (none, later)) = none-parts (Fault job) sizeRows (tableRows ++ listRows) none .1
 
 module _ {room : List ℕ} {job a p : ℕ} (some-job : 1 ≤ job) (inside : job ≤ countIn twoJobs) (some-word : 1 ≤ wordsOf twoJobs job) (few-words : wordsOf twoJobs job ≤ mostWords)
-    (enough : 6 + 2 * wordsOf twoJobs job ≤ length room) (late-answer : (a ≡ 0) ⊎ (10 ≤ a)) (x : Answered number (Fault (jobOf twoJobs job)) matchOrder a p) where
+    (enough : 6 + 2 * wordsOf twoJobs job ≤ length room) (late-answer : (a ≡ 0) ⊎ (10 ≤ a)) (x : Answered number (Fault (calledJob twoJobs job)) matchOrder a p) where
   job-passes : HostPasses twoJobs job room
   job-passes =
       none-both (HostFault twoJobs job room) earlyOrder (map of-match (tableRows ++ listRows)) (none-early twoJobs job room good some-job inside some-word few-words enough)
@@ -82,18 +82,18 @@ module _ {room : List ℕ} {job a p : ℕ} (some-job : 1 ≤ job) (inside : job 
 
   job-answered : {r : ℕ} {after : List ℕ} (h : HostOf twoJobs job room r after) → (r ≡ a) × (h .place ≡ p)
   job-answered {r} h =
-      answered-only number (Fault (jobOf twoJobs job)) (fault-once (jobOf twoJobs job)) pairRows r (h .place) a p (late job-passes r (h .place) (h .answered))
-      (rest-answers number (Fault (jobOf twoJobs job)) (checkOrder ++ listRows) pairRows a p (passes-match job-passes) x)
+      answered-only number (Fault (calledJob twoJobs job)) (fault-once (calledJob twoJobs job)) pairRows r (h .place) a p (late job-passes r (h .place) (h .answered))
+      (rest-answers number (Fault (calledJob twoJobs job)) (checkOrder ++ listRows) pairRows a p (passes-match job-passes) x)
 
 -- ---- the two jobs
 
 -- the sheet's rows P1 and P2
-first-answered : Answered number (Fault (jobOf twoJobs 1)) matchOrder 0 0
+first-answered : Answered number (Fault (calledJob twoJobs 1)) matchOrder 0 0
 first-answered =
     subst (λ (job : Job). Answered number (Fault job) matchOrder 0 0) (sym first-job)
     (sheet-holds _ (List·Memᴰ·head refl) .answered 17 68 (omega arith) (omega arith))
 
-second-answered : Answered number (Fault (jobOf twoJobs 2)) matchOrder 11 1
+second-answered : Answered number (Fault (calledJob twoJobs 2)) matchOrder 11 1
 second-answered =
     subst (λ (job : Job). Answered number (Fault job) matchOrder 11 1) (sym second-job)
     (sheet-holds _ (List·Memᴰ·tail (List·Memᴰ·head refl)) .answered 4 16 (omega arith) (omega arith))

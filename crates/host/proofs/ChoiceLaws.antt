@@ -24,7 +24,7 @@ use Rattle.jobfile.specs.declared.sizes.Sizes.{Sizes}
 use Rattle.jobfile.proofs.FileLaws.{length-sizesFrom, entry-in-sizes}
 use Rattle.jobfile.proofs.ReaderLaws.{read-once, good-judged, judged-good, good-number}
 use Rattle.jobfile.specs.Jobs.{entryOf, wordsOf}
-use Rattle.host.specs.Host.{jobOf, HostRow, of-file, JOB, SIZE, ROOM, of-match, hostNumber, HostFault, file-fault, job-fault, size-fault, room-fault, match-fault, callRows, earlyOrder, lateOrder, reportOf, writesNothing, HostOf}
+use Rattle.host.specs.Host.{calledJob, HostRow, of-file, JOB, SIZE, ROOM, of-match, hostNumber, HostFault, file-fault, job-fault, size-fault, room-fault, match-fault, callRows, earlyOrder, lateOrder, reportOf, writesNothing, HostOf}
 use Rattle.host.specs.Steps.Choice.{Sized, no-size, no-room, fits, Numbered, no-job, there, Early, JobFound, Choice}
 use Rattle.host.specs.declared.choice.Chosen.{Chosen}
 use Rattle.host.specs.declared.choice.Chosen.the-variants.{Refused, Found}
@@ -38,28 +38,28 @@ module _ (bytes : List ℕ) (job : ℕ) (room : List ℕ) where
   host-once row p q (job-fault a) (job-fault b) = refl
   host-once row p q (size-fault a) (size-fault b) = refl
   host-once row p q (room-fault a) (room-fault b) = refl
-  host-once row p q (match-fault {row = r} a) (match-fault b) = fault-once (jobOf bytes job) r p q a b
+  host-once row p q (match-fault {row = r} a) (match-fault b) = fault-once (calledJob bytes job) r p q a b
 
   -- ---- the match's rows
 
-  out-of-match : {row : MatchRow} (p : ℕ) → HostFault bytes job room (of-match row) p → Fault (jobOf bytes job) row p
+  out-of-match : {row : MatchRow} (p : ℕ) → HostFault bytes job room (of-match row) p → Fault (calledJob bytes job) row p
   out-of-match p (match-fault f) = f
 
   module _ (rows : List MatchRow) where
-    pub from-match : (a p : ℕ) → each (λ row. true) rows ≡ true → Answered matchNumber (Fault (jobOf bytes job)) rows a p → Answered hostNumber (HostFault bytes job room) (map of-match rows) a p
+    pub from-match : (a p : ℕ) → each (λ row. true) rows ≡ true → Answered matchNumber (Fault (calledJob bytes job)) rows a p → Answered hostNumber (HostFault bytes job room) (map of-match rows) a p
     unfolding hostNumber
     from-match =
-        carried matchNumber (Fault (jobOf bytes job)) hostNumber (HostFault bytes job room) of-match (λ row. true) (λ row. refl) (λ row q t f. match-fault f) (λ row q t f. out-of-match q f) rows
+        carried matchNumber (Fault (calledJob bytes job)) hostNumber (HostFault bytes job room) of-match (λ row. true) (λ row. refl) (λ row q t f. match-fault f) (λ row q t f. out-of-match q f) rows
 
-    pub to-match : (a p : ℕ) → each (λ row. true) rows ≡ true → Answered hostNumber (HostFault bytes job room) (map of-match rows) a p → Answered matchNumber (Fault (jobOf bytes job)) rows a p
+    pub to-match : (a p : ℕ) → each (λ row. true) rows ≡ true → Answered hostNumber (HostFault bytes job room) (map of-match rows) a p → Answered matchNumber (Fault (calledJob bytes job)) rows a p
     unfolding hostNumber
     to-match =
-        carried-back matchNumber (Fault (jobOf bytes job)) hostNumber (HostFault bytes job room) of-match (λ row. true) (λ row. refl) (λ row q t f. match-fault f) (λ row q t f. out-of-match q f) rows
+        carried-back matchNumber (Fault (calledJob bytes job)) hostNumber (HostFault bytes job room) of-match (λ row. true) (λ row. refl) (λ row q t f. match-fault f) (λ row q t f. out-of-match q f) rows
 
-    pub none-of-match : each (λ row. true) rows ≡ true → NoneOf (HostFault bytes job room) (map of-match rows) → NoneOf (Fault (jobOf bytes job)) rows
+    pub none-of-match : each (λ row. true) rows ≡ true → NoneOf (HostFault bytes job room) (map of-match rows) → NoneOf (Fault (calledJob bytes job)) rows
     unfolding hostNumber
     none-of-match =
-        none-carried matchNumber (Fault (jobOf bytes job)) hostNumber (HostFault bytes job room) of-match (λ row. true) (λ row. refl) (λ row q t f. match-fault f) (λ row q t f. out-of-match q f) rows
+        none-carried matchNumber (Fault (calledJob bytes job)) hostNumber (HostFault bytes job room) of-match (λ row. true) (λ row. refl) (λ row q t f. match-fault f) (λ row q t f. out-of-match q f) rows
 
   -- ---- the file
 

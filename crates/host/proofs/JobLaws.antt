@@ -26,7 +26,7 @@ use Rattle.matcher.proofs.OneMatch.{refused-joins}
 use Rattle.jobfile.specs.File.{pairsIn, bodyIn}
 use Rattle.jobfile.proofs.NumberLaws.{length-rowIn}
 use Rattle.jobfile.specs.Jobs.{JobTaken, entryOf, wordsOf, tableOf, listOf}
-use Rattle.host.specs.Host.{jobOf, hostNumber, HostFault, earlyOrder, lateOrder, reportOf, writesNothing, HostOf}
+use Rattle.host.specs.Host.{calledJob, hostNumber, HostFault, earlyOrder, lateOrder, reportOf, writesNothing, HostOf}
 use Rattle.host.specs.Steps.Choice.{JobFound}
 use Rattle.host.specs.Steps.Rows.{listRoom, RowsFit, RowsOfJob}
 use Rattle.host.proofs.ReportLaws.{room-reported}
@@ -40,16 +40,16 @@ abbrev lateRows : List MatchRow
 lateRows = tableRows ++ listRows ++ pairRows
 
 -- A job of a size that is allowed has room for it.
-pub sizes-pass : (bytes : List ℕ) (job : ℕ) → ((wordsOf bytes job ≡ 0) ⊎ (mostWords < wordsOf bytes job) → ⊥) → NoneOf (Fault (jobOf bytes job)) sizeRows
+pub sizes-pass : (bytes : List ℕ) (job : ℕ) → ((wordsOf bytes job ≡ 0) ⊎ (mostWords < wordsOf bytes job) → ⊥) → NoneOf (Fault (calledJob bytes job)) sizeRows
 sizes-pass bytes job allowed = (no-size, (no-room, tt))
   where
     size : length (tableOf bytes job) ≡ wordsOf bytes job
     size = length-rowIn 4 (wordsOf bytes job) (bodyIn bytes (entryOf job))
 
-    no-size : (p : ℕ) → Fault (jobOf bytes job) SIZE p → ⊥
+    no-size : (p : ℕ) → Fault (calledJob bytes job) SIZE p → ⊥
     no-size p (size-fault x) = allowed (subst (λ (n : ℕ). (n ≡ 0) ⊎ (mostWords < n)) size x)
 
-    no-room : (p : ℕ) → Fault (jobOf bytes job) ROOM p → ⊥
+    no-room : (p : ℕ) → Fault (calledJob bytes job) ROOM p → ⊥
     no-room p (room-fault x) = ⊎-elim (λ e. omega (arith, size)) (λ e. omega (arith, size)) x
 
 module _ {bytes : List ℕ} {job : ℕ} {table list class work room : List ℕ} (lent : RowsOfJob bytes job table list class work room) where
@@ -83,25 +83,25 @@ module _ {bytes : List ℕ} {job : ℕ} {table list class work room : List ℕ} 
       (subst (λ (c : ℕ). Answered matchNumber (Fault (sent (tableOf bytes job) cutList c (length work))) matchOrder a p) (lent .classes) x)
 
   of-whole : Dec (2 * pairsIn bytes (entryOf job) ≤ listRoom) → (a p : ℕ) → Answered matchNumber (Fault (sent (tableOf bytes job) cutList (wordsOf bytes job) (4 * wordsOf bytes job))) matchOrder a p
-      → Answered matchNumber (Fault (jobOf bytes job)) matchOrder a p
+      → Answered matchNumber (Fault (calledJob bytes job)) matchOrder a p
   of-whole (yes h) a p x =
       subst (λ (l : List ℕ). Answered matchNumber (Fault (sent (tableOf bytes job) l (wordsOf bytes job) (4 * wordsOf bytes job))) matchOrder a p) (whole-list h) x
   of-whole (no h) a p x =
       long-lists (tableOf bytes job) cutList (listOf bytes job) (wordsOf bytes job) (4 * wordsOf bytes job) (over (omega arith)) (too (omega arith)) a p x
 
   -- an accepted list was not cut
-  accepted-whole : Dec (2 * pairsIn bytes (entryOf job) ≤ listRoom) → (p : ℕ) → Answered matchNumber (Fault (jobOf bytes job)) matchOrder 0 p → cutList ≡ listOf bytes job
+  accepted-whole : Dec (2 * pairsIn bytes (entryOf job) ≤ listRoom) → (p : ℕ) → Answered matchNumber (Fault (calledJob bytes job)) matchOrder 0 p → cutList ≡ listOf bytes job
   unfolding matchNumber
   accepted-whole (yes h) p x = whole-list h
   accepted-whole (no h) p x =
-      absurd (none-parts (Fault (jobOf bytes job)) checkOrder (listRows ++ pairRows) (passed-none matchNumber (Fault (jobOf bytes job)) matchOrder 0 p refl refl x .0) .1 .0 0 (list-fault (inr (too (omega arith)))))
+      absurd (none-parts (Fault (calledJob bytes job)) checkOrder (listRows ++ pairRows) (passed-none matchNumber (Fault (calledJob bytes job)) matchOrder 0 p refl refl x .0) .1 .0 0 (list-fault (inr (too (omega arith)))))
 
-  late : (a p : ℕ) → Answered matchNumber (Fault (jobOf bytes job)) matchOrder a p → Answered matchNumber (Fault (jobOf bytes job)) lateRows a p
+  late : (a p : ℕ) → Answered matchNumber (Fault (calledJob bytes job)) matchOrder a p → Answered matchNumber (Fault (calledJob bytes job)) lateRows a p
   late a p =
-      rest-answers matchNumber (Fault (jobOf bytes job)) sizeRows lateRows a p
+      rest-answers matchNumber (Fault (calledJob bytes job)) sizeRows lateRows a p
       (sizes-pass bytes job (⊎-elim (λ e. omega (arith, e, lent .some-word)) (λ e. omega (arith, e, lent .few-words))))
 
-  host-answered : (a p : ℕ) → Answered matchNumber (Fault (jobOf bytes job)) matchOrder a p → Answered hostNumber (HostFault bytes job room) (earlyOrder ++ lateOrder) a p
+  host-answered : (a p : ℕ) → Answered matchNumber (Fault (calledJob bytes job)) matchOrder a p → Answered hostNumber (HostFault bytes job room) (earlyOrder ++ lateOrder) a p
   host-answered a p x =
       none-first hostNumber (HostFault bytes job room) earlyOrder lateOrder a p
       (none-early bytes job room (lent .copied .there .good) (lent .copied .there .some-job) (lent .copied .there .inside) (lent .some-word) (lent .few-words) (lent .enough))
@@ -121,10 +121,10 @@ module _ {bytes : List ℕ} {job : ℕ} {table list class work room : List ℕ} 
       let a : ℕ = numberOf answer in
       let p : ℕ = placeOf answer in
       let d : Dec (2 * pairsIn bytes (entryOf job) ≤ listRoom) = decLe (2 * pairsIn bytes (entryOf job)) listRoom in
-      let answered : Answered matchNumber (Fault (jobOf bytes job)) matchOrder a p = of-whole d a p (of-cut a p (m .answered)) in
-      let quiet : changesNothing a ≡ false = later-rows matchNumber (Fault (jobOf bytes job)) lateRows a p refl (late a p answered) in
+      let answered : Answered matchNumber (Fault (calledJob bytes job)) matchOrder a p = of-whole d a p (of-cut a p (m .answered)) in
+      let quiet : changesNothing a ≡ false = later-rows matchNumber (Fault (calledJob bytes job)) lateRows a p refl (late a p answered) in
       let written : not (writesNothing a) ≡ true =
-      answered-tested matchNumber (Fault (jobOf bytes job)) (λ b. not (writesNothing b)) lateRows a p refl (λ z. ap (λ (b : ℕ). not (writesNothing b)) z) (late a p answered) in
+      answered-tested matchNumber (Fault (calledJob bytes job)) (λ b. not (writesNothing b)) lateRows a p refl (λ z. ap (λ (b : ℕ). not (writesNothing b)) z) (late a p answered) in
       subst (λ (q : ℕ). HostOf bytes job room q after) (sym e)
       (record {
         place = p;
@@ -134,7 +134,7 @@ module _ {bytes : List ℕ} {job : ℕ} {table list class work room : List ℕ} 
         bound = λ z.
             let b = m .bound z in
             let row : b .table ≡ class-after = sym (b .row ∙ behind (b .table)) in
-            let whole : cutList ≡ listOf bytes job = accepted-whole d p (subst (λ (q : ℕ). Answered matchNumber (Fault (jobOf bytes job)) matchOrder q p) z answered) in
+            let whole : cutList ≡ listOf bytes job = accepted-whole d p (subst (λ (q : ℕ). Answered matchNumber (Fault (calledJob bytes job)) matchOrder q p) z answered) in
             record {
               class-table =
                   subst (λ (l : List ℕ). ClassTable (graphOf (tableOf bytes job)) (pairsOf (listOf bytes job)) l) row

@@ -21,8 +21,8 @@ use Rattle.jobfile.specs.Faults.{FileRow, ReadFault, fileNumber, readOrder}
 -- ---- the job
 
 -- What the match is sent. The host call has buffers of n and of 4n entries for it, so that 2 is about the room alone.
-abbrev pub jobOf : List ℕ → ℕ → Job
-jobOf bytes job = sent (tableOf bytes job) (listOf bytes job) (wordsOf bytes job) (4 * wordsOf bytes job)
+abbrev pub calledJob : List ℕ → ℕ → Job
+calledJob bytes job = sent (tableOf bytes job) (listOf bytes job) (wordsOf bytes job) (4 * wordsOf bytes job)
 
 -- ---- the answer
 
@@ -49,7 +49,7 @@ pub data HostFault (bytes : List ℕ) (job : ℕ) (room : List ℕ) : HostRow �
   -- "2 if room is under 6 + 2n"
   room-fault : length room < 6 + 2 * wordsOf bytes job → HostFault bytes job room ROOM 0
   -- 3 to 11 are the match's, of the job's own table and list
-  match-fault : {row : MatchRow} {p : ℕ} → Fault (jobOf bytes job) row p → HostFault bytes job room (of-match row) p
+  match-fault : {row : MatchRow} {p : ℕ} → Fault (calledJob bytes job) row p → HostFault bytes job room (of-match row) p
 
 -- "Order: 12, 13, 14; 15 ..; 1; 2 .." and then 3 to 11
 abbrev pub callRows : List HostRow

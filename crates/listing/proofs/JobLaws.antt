@@ -27,7 +27,7 @@ use Rattle.jobfile.proofs.Theorems.{job-body}
 use Rattle.lines.specs.Lines.{jobLine, LineIn, TextIn}
 use Rattle.listing.specs.Listing.{variableLines, sentFor, JobListed, job-refused, job-accepted}
 use Rattle.listing.specs.Parts.{jobAt}
-use Rattle.listing.specs.Steps.Putting.{jobRoom, answerLine, AnswerTold, RowsOfJob}
+use Rattle.listing.specs.Steps.Putting.{jobRoom, answerLine, AnswerTold, RowsForListing}
 use Rattle.listing.proofs.PutLaws.{lines-front}
 
 -- ---- its rows
@@ -42,7 +42,7 @@ job-fits {file} {job} there =
 
 pub rows-for-job : {file : List ℕ} {job n p entries : ℕ} (table list : List ℕ) {class work row : List ℕ} → JobThere file job → n ≡ wordsOf file job → p ≡ pairsIn file (entryOf job) → entries ≡ 2 * p
     → n ≤ length table → entries ≤ length list → length class ≡ mostWords → length work ≡ 4 * mostWords → jobRoom ≤ length row
-    → RowsOfJob file job (take n table) (take entries list) class work row
+    → RowsForListing file job (take n table) (take entries list) class work row
 rows-for-job {n = n} {entries = entries} table list there words pairs all tables lists classes works room =
     let long : length (take entries list) ≡ entries = length-take-le entries list lists in
     record {
@@ -55,7 +55,7 @@ rows-for-job {n = n} {entries = entries} table list there words pairs all tables
 
 -- ---- what was taken
 
-job-matched : {file table list class work row t l class-after work-after : List ℕ} {job : ℕ} {answer : Matched} → RowsOfJob file job table list class work row → JobTaken file job list t l
+job-matched : {file table list class work row t l class-after work-after : List ℕ} {job : ℕ} {answer : Matched} → RowsForListing file job table list class work row → JobTaken file job list t l
     → MatchOf t l class work answer class-after work-after
     → (t ≡ jobAt file job .words) × MatchOf (jobAt file job .words) (entriesOf (jobAt file job .pairs)) class work answer class-after work-after
 job-matched {file} {list = list} {class} {work} {t = t} {l} {class-after} {work-after} {job} {answer} rows taken m =
@@ -120,7 +120,7 @@ module _ (k : ℕ) (job : FileJob) {class work class-after work-after row after 
       go (yes z) = listed-accepted z
       go (no other) = listed-refused other
 
-pub job-told : {file table list class work row t l class-after work-after after : List ℕ} {job r : ℕ} {answer : Matched} → RowsOfJob file job table list class work row → JobTaken file job list t l
+pub job-told : {file table list class work row t l class-after work-after after : List ℕ} {job r : ℕ} {answer : Matched} → RowsForListing file job table list class work row → JobTaken file job list t l
     → MatchOf t l class work answer class-after work-after → AnswerTold job answer t class-after row r after → TextIn (JobListed job (jobAt file job)) row r after
 job-told {file} {row = row} {class-after = class-after} {after = after} {job} {r} {answer} rows taken m told =
     let matched = job-matched rows taken m in

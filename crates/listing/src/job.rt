@@ -8,7 +8,7 @@ ghost use Rattle.matcher.specs.Match.{numberOf};
 ghost use Rattle.lines.specs.Lines.{lineRoom, LineIn, TextIn};
 ghost use Rattle.listing.specs.Listing.{JobListed};
 ghost use Rattle.listing.specs.Parts.{jobAt};
-ghost use Rattle.listing.specs.Steps.Putting.{jobRoom, Tellable, answerLine, AnswerTold, RowsOfJob};
+ghost use Rattle.listing.specs.Steps.Putting.{jobRoom, Tellable, answerLine, AnswerTold, RowsForListing};
 use crate::variables;
 use matcher::answer;
 use matcher::answer::Matched;
@@ -54,7 +54,7 @@ fn match_job(
     work: &mut [u16],
     row: &mut [u8],
 ) -> usize
-    requires { ⌜ RowsOfJob (now file) job (now table) (now list) (now class) (now work) (now row) ⌝ }
+    requires { ⌜ RowsForListing (now file) job (now table) (now list) (now class) (now work) (now row) ⌝ }
     ensures { λ r. ⌜ TextIn (JobListed job (jobAt (now (file .entry)) job)) (now (row .entry)) r (now (row .exit)) × (r ≤ jobRoom) ⌝ }
 {
     jobfile::take_job(file, job, table, list);

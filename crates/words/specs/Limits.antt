@@ -1,5 +1,5 @@
 -- Document 01's limits, each beside its sentence. Assumes nothing.
-use Prim.Native.Nat.{ℕ, _*_}
+use Prim.Native.Nat.{ℕ}
 
 -- "A table is n words of 32 bits at addresses 0 to n-1, with n from 1 to 4,096."
 abbrev pub mostWords : ℕ

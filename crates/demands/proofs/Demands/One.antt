@@ -9,7 +9,7 @@ use Rattle.answering.specs.Answers.{Answered}
 use Rattle.answering.specs.Buffers.{changesNothing}
 use Rattle.table.specs.Faults.{Fault, number, checkOrder, matchOrder}
 use Rattle.checker.specs.declared.answer.Checked.{Checked}
-use Rattle.checker.specs.Check.{CheckOf, numberOf as checkNumber, placeOf as checkPlace, jobOf as checkedJob}
+use Rattle.checker.specs.Check.{CheckOf, numberOf as checkNumber, placeOf as checkPlace, checkedJob}
 use Rattle.matcher.specs.declared.answer.Matched.{Matched}
 use Rattle.matcher.specs.Match.{MatchOf, numberOf, placeOf, joinsOf, jobOf}
 use Rattle.jobfile.specs.declared.answers.FileAnswer.{FileAnswer}

@@ -35,7 +35,7 @@ pub record AnswerTold (job : ℕ) (answer : Matched) (table class row : List ℕ
   pub refused : (numberOf answer ≡ 0 → ⊥) → LineIn (answerLine job answer) row r after
 
 -- rows for the job, for a match of it in buffers with room for every table, and for its lines
-pub record RowsOfJob (file : List ℕ) (job : ℕ) (table list class work row : List ℕ) : Type 0 where
+pub record RowsForListing (file : List ℕ) (job : ℕ) (table list class work row : List ℕ) : Type 0 where
   pub copied : RowsForJob file job table list
   pub whole : length list ≡ 2 * pairsIn file (entryOf job)
   pub classes : length class ≡ mostWords

@@ -1,4 +1,4 @@
--- `classes::own::count_joins` meets its contract. The loop's invariant is `Counted`: what is counted so far and the classes so
+-- `classes::own::count_joins` meets its contract. The loop's invariant is `CountedBelow`: what is counted so far and the classes so
 -- far are the nodes so far. Assumes nothing.
 use mathlib.Core.Bool.{not}
 use mathlib.Core.Logic.{⊎-elim}
@@ -8,12 +8,12 @@ use borrow.Author.Needs.{needs}
 use lib.Dec.{eqb}
 use lib.ListN.{length}
 use Rattle.graphs.specs.Partition.{entry}
-use Rattle.classes.proofs.CountedJoins.{Counted, entry-node, entry-none, other-name, own-name, no-name, counted-none, counted-more, counted-all}
+use Rattle.classes.proofs.CountedJoins.{CountedBelow, entry-node, entry-none, other-name, own-name, no-name, counted-none, counted-more, counted-all}
 use Rattle.classes.proofs.own.count_joins.Statement.{statement}
 use Rattle.classes.proofs.own.count_joins.Tie as tie
 
 abbrev Inv-loop : tie.InvT-loop
-Inv-loop table class joined₀ x₀ joined x = Counted table class joined x
+Inv-loop table class joined₀ x₀ joined x = CountedBelow table class joined x
 
 abbrev μ-loop : tie.MeasureT-loop
 μ-loop table class joined₀ x₀ joined x = length table - x
