@@ -1,5 +1,5 @@
 -- Document 01's limits, each beside its sentence. Assumes nothing.
-use Prim.Native.Nat.{ℕ}
+use Prim.Native.Nat.{ℕ, _*_}
 
 -- "A table is n words of 32 bits at addresses 0 to n-1, with n from 1 to 4,096."
 abbrev pub mostWords : ℕ
@@ -15,7 +15,7 @@ mostPairs = 256
 
 -- two addresses a pair: "odd number of entries, or over 512" is a fault
 abbrev pub mostEntries : ℕ
-mostEntries = 512
+mostEntries = 2 * mostPairs
 
 -- "under 2 bytes or over 32,768" is a fault
 abbrev pub mostBytes : ℕ
@@ -27,4 +27,4 @@ mostJobs = 64
 
 -- n and p for each job: "at most 128 numbers"
 abbrev pub mostSizes : ℕ
-mostSizes = 128
+mostSizes = 2 * mostJobs
