@@ -13,7 +13,7 @@ help:
 	@echo 'make host                             build the host program in C and run it'
 	@echo 'make test                             the gate: layout, every proof from nothing, the tests'
 	@echo 'make edits CRATE=words                the edits that the prover must refuse, of one crate or of all'
-	@echo 'make soak JOBS=5000000 SEED=1         the station against an independent unifier on so many random jobs'
+	@echo 'make soak JOBS=5000000 SEED=1         the station against an independent unifier on that many random jobs'
 	@echo 'make check                            prove every crate that changed since it was last proved'
 	@echo 'make install PREFIX=/usr/local        header, library, pkg-config file, listing program, manual page'
 	@echo 'make bench                            measure the speed beside plain C, and write docs/BENCH.md'
