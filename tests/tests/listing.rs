@@ -6,8 +6,7 @@ use station_tests::programs::{listing, listing_into};
 use station_tests::repository;
 use station_tests::table::{variable, words, MOST_WORDS};
 use std::fs::{File, OpenOptions};
-use std::io;
-use std::process::Command;
+use std::process::{Command, Stdio};
 
 /// What is said on standard error where standard output takes no more.
 const NOT_WHOLE: &str = "station-listing: the listing was not written to its end\n";
@@ -202,8 +201,13 @@ fn a_full_device() {
 
 #[test]
 fn a_pipe_that_nobody_reads() {
-    let (reader, writer) = io::pipe().expect("there are pipes");
-    drop(reader);
+    // the input of a program that has ended
+    let mut ended = Command::new("true")
+        .stdin(Stdio::piped())
+        .spawn()
+        .expect("the program is there");
+    let writer = ended.stdin.take().expect("its input is piped");
+    ended.wait().expect("it ends");
     let (status, _) = listing_into(writer.into(), &file_of(&examples()));
     assert!(!status.success(), "{status}");
 }
