@@ -15,12 +15,12 @@
 #include <stdio.h>
 #include <stdlib.h>
 
-/* A machine may be slow for seconds on end, so all rows are measured so many times over. */
+/* A machine may be slow for seconds on end, so all rows are measured several times over. */
 enum { SWEEPS = 5, MOST_ROWS = 200 };
 
 /* On one random table over and over a call takes far less time than among others, up to some 2,000 words, as if
  * the processor learned it by heart. No night sends one table over and over, so random tables are taken by
- * turns, so many that they have this many words together at every size.
+ * turns, as many as have this many words together at every size.
  */
 enum { WORDS_BY_TURNS = 32768 };
 

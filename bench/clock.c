@@ -40,7 +40,7 @@ static void call_match(const struct side *side, size_t k) {
 
 typedef void call(const struct side *side, size_t k);
 
-/* Nanoseconds a call, all jobs taken by turns so many times. */
+/* Nanoseconds a call, all jobs taken by turns, `rounds` times. */
 static double batch(call *call, const struct side *side, int rounds) {
     double began = now();
     for (int round = 0; round < rounds; round++)

@@ -5,7 +5,7 @@
 #include "job.h"
 #include "sides.h"
 
-/* A measurement takes at most so many jobs, and files of so many bytes together. */
+/* The most jobs of a measurement, and the most bytes of their files together. */
 enum { MOST_JOBS = 512, FILES_ROOM = 512 * 1024 };
 
 struct times {

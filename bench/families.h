@@ -1,4 +1,4 @@
-/* The families of jobs that are measured. Each makes a job of about so many words, never more.
+/* The families of jobs that are measured. Each makes a job of about the words asked for, never more.
  *
  * Of a random family there are many jobs of one size, told apart by a number.
  */

@@ -61,14 +61,14 @@ END {
     goals("station_lent")
     growth()
     print "\n## The jobs that the goals are about\n"
-    print "Nanoseconds a call. A ratio under 1 says that the station is faster. The buffers held the last call's answer and were not cleared before. Random tables are taken by turns, so many that they have 32,768 words together; pairs and answer are those of the first.\n"
+    print "Nanoseconds a call. A ratio under 1 says that the station is faster. The buffers held the last call's answer and were not cleared before. Random tables are taken by turns, as many as have 32,768 words together; pairs and answer are those of the first.\n"
     head = "| family | words | pairs | answer | tables | station_match | C | ratio | station_lent | C | ratio |\n|---|---|---|---|---|---|---|---|---|---|---|"
     print head; printf "%s", asked_rows
     print "\n| family | what it is | time against words |\n|---|---|---|"
     for (i = 1; i <= families; i++)
         printf "| %s | %s | [plot](bench/%s.svg) |\n", family[i], what[family[i]], family[i]
     print "\n## From 2,048 to 4,096 words\n"
-    print "| family | words | words | station_lent takes so many times as long | station_match |\n|---|---|---|---|---|"
+    print "| family | words | words | station_lent: times as long | station_match |\n|---|---|---|---|---|"
     printf "%s", growth_rows
     print "\n## A night\n"
     print night " Each list is a job file of its own with a random table of 64 to 512 words and a pair for each 16 words; half of the lists can be met.\n"

@@ -84,7 +84,7 @@ static inline uint16_t count_joins(size_t n, const uint16_t *class) {
 }
 
 struct joined {
-    size_t pairs; /* so many before the first clash */
+    size_t pairs; /* those before the first clash */
     uint16_t joins;
 };
 

@@ -17,12 +17,12 @@ static void expect(const char *what, unsigned found, unsigned wanted) {
         printf("%s: %u and not %u\n", what, found, wanted);
 }
 
-/* A match of so many words and pairs with just what it needs. */
+/* A match of this many words and pairs with just what it needs. */
 static unsigned lent(size_t words, size_t pairs) {
     return STATION_ANSWER_OF(station_lent(table, words, list, 2 * pairs, classes, words, work, STATION_WORK_ENTRIES(words)));
 }
 
-/* A function of so many arguments. */
+/* A function of this many arguments. */
 static unsigned arguments(size_t count) {
     uint32_t block[STATION_MOST_ARGUMENTS + 4] = {0, STATION_FUNCTION(1), STATION_COUNT(count)};
     for (size_t i = 0; i < count; i++)
@@ -30,7 +30,7 @@ static unsigned arguments(size_t count) {
     return STATION_ANSWER_OF(station_check(block, 3 + count, classes, WORDS, work, STATION_WORK_ENTRIES(WORDS)));
 }
 
-/* A file of so many jobs without words, the first with so many; its answer on just the room that it needs. */
+/* A file of this many jobs, of which the first alone has words; its answer on just the room that it needs. */
 static unsigned written(size_t jobs, size_t words) {
     memset(sizes, 0, sizeof sizes);
     sizes[0] = (uint16_t)words;

@@ -6,7 +6,7 @@ pub const FILE: u16 = 12;
 pub const CONTENTS: u16 = 13;
 pub const BODY: u16 = 14;
 
-/// A file has at most so many bytes, and so many jobs.
+/// The most bytes and the most jobs of a file.
 pub const MOST_BYTES: usize = 32_768;
 pub const MOST_JOBS: usize = 64;
 

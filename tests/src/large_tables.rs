@@ -2,7 +2,7 @@
 
 use crate::table::{argument_count, function, pointer, variable, words, MOST_PAIRS, MOST_WORDS};
 
-/// Chains of functions of one argument, one behind the other, each of so many blocks and with its last
+/// Chains of functions of one argument, one behind the other, each of this number of blocks and with its last
 /// argument given. Pointers name the next block, or the one before; then a chain ends with its first
 /// block.
 pub fn chains(ends: &[u32], blocks: usize, ahead: bool) -> Vec<u32> {

@@ -125,7 +125,7 @@ pub fn example_c() -> Vec<u32> {
 
 // ---- other tables
 
-/// A function of so many constants, at address 1.
+/// A function of `count` constants, at address 1.
 pub fn block(count: u16) -> Vec<u32> {
     let mut items = vec![function(1), argument_count(count)];
     items.extend(vec![constant(1); usize::from(count)]);

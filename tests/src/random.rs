@@ -30,7 +30,7 @@ impl Numbers {
         self.number() as usize % bound
     }
 
-    /// True once in so many times.
+    /// True once in `times` times.
     pub fn one_in(&mut self, times: usize) -> bool {
         self.below(times) == 0
     }

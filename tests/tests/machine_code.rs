@@ -8,7 +8,7 @@ use station_tests::machine_code::{calls, of_library, of_program, probes, stack};
 use station_tests::read;
 use std::collections::BTreeMap;
 
-/// A match on lent buffers and a check take less than so many bytes.
+/// A match on lent buffers and a check take fewer bytes than this.
 const LIMIT: u64 = 2_048;
 const LIMITED: [&str; 2] = ["station_lent", "station_check"];
 

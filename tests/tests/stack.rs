@@ -12,13 +12,13 @@ use station_tests::table::{
 };
 use std::process::Command;
 
-/// A match may use less than so many bytes of stack.
+/// A match may use fewer bytes of stack than this.
 const LIMIT: usize = 2_048;
 
 /// What a job is, its answer where it is known, and the job.
 type Case = (String, Option<u16>, Job);
 
-/// The most blocks of three words that each of so many chains can have.
+/// The most blocks of three words that each chain can have, where there are this many.
 fn blocks(chains: usize) -> usize {
     (MOST_WORDS - 1) / 3 / chains
 }

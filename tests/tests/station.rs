@@ -29,7 +29,7 @@ fn report(answer: u16, place: u16, joins: u16, classes: &[u16]) -> Vec<u8> {
         .collect()
 }
 
-/// The answer for a job, in room of so many bytes, and the room.
+/// The answer for a job, in room of `size` bytes, and the room.
 fn called(file: &[u8], job: u32, size: usize) -> (u16, Vec<u8>) {
     let mut room = vec![OLD_BYTE; size];
     let answer = match_job(file, job, &mut room);

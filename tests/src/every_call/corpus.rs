@@ -117,7 +117,7 @@ fn files(numbers: &mut Numbers, calls: &mut Vec<Call>) {
     }
 }
 
-/// The whole corpus of a seed, with so many random jobs.
+/// The whole corpus of a seed, with `jobs` random jobs.
 pub fn corpus(seed: u64, jobs: u64) -> Vec<Call> {
     let mut calls = Vec::new();
     for part in 0..jobs {

@@ -61,7 +61,7 @@ impl<'a> Memory<'a> {
         self.extend(&bytes);
     }
 
-    /// A row that is read, with entries of so many bytes.
+    /// A row that is read, with entries of `size` bytes.
     fn read<T: Copy + Into<u64>>(&mut self, row: &[T], size: usize) {
         self.guards(size);
         self.rows.push((self.before.len(), row.len()));

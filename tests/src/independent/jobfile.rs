@@ -51,7 +51,7 @@ pub fn job_of(file: &[u8], job: usize) -> Job {
     (table, list)
 }
 
-/// The number by which the writer refuses sizes, bodies of so many bytes and so much room.
+/// The number by which the writer refuses sizes, bodies of `bodies` bytes and room of `room`.
 pub fn refusal(sizes: &[u16], bodies: usize, room: usize) -> Option<u16> {
     let jobs = sizes.len() / 2;
     if sizes.len() % 2 == 1 || jobs == 0 || jobs > MOST_JOBS {

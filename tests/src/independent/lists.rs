@@ -11,7 +11,7 @@ struct Sides<'a> {
     table: &'a [u32],
     nodes: Vec<usize>,
     variables: Vec<usize>,
-    /// The left side is any node once in so many times, and else a variable.
+    /// The left side is any node once in this many times, and else a variable.
     any_node_in: usize,
     /// The first address of a copy of all before it, or 0.
     copy: usize,
@@ -86,7 +86,7 @@ pub fn any(numbers: &mut Numbers, table: &[u32], length: usize, copy: usize) -> 
     list
 }
 
-/// Up to so many pairs that a good table accepts, made by leaving out what it would refuse. Half of the
+/// Up to `length` pairs that a good table accepts, made by leaving out what it would refuse. Half of the
 /// lists then go on with a bad pair, if one is soon found, and with others that must not matter.
 pub fn long(numbers: &mut Numbers, table: &[u32], length: usize, copy: usize) -> Vec<u16> {
     let sides = Sides::of(numbers, table, copy);

@@ -62,7 +62,7 @@ impl Seen {
         self.answers[entry as usize][usize::from(answer)] += 1;
     }
 
-    /// A job of so many words and pairs.
+    /// A job, by the number of its words and pairs.
     pub fn job(&mut self, words: usize, pairs: usize, given: &Given, trees: &Trees) {
         match trees {
             Trees::NotAsked => {}
