@@ -8,6 +8,7 @@ ghost use Rattle.again.specs.Again.{AgainOf};
 ghost use Rattle.again.specs.Steps.Rewriting.{Rewritten};
 use jobfile::answers;
 use jobfile::answers::FileAnswer;
+use lines::LINE_ROOM;
 use words::limits::MOST_BYTES;
 
 // Reads a file and writes what it yields into room. A good file is in front of room then; a refusal writes nothing.
@@ -29,7 +30,7 @@ fn put_refusal(answer: FileAnswer, room: &mut [u8]) -> usize
     requires { ⌜ mostBytes ≤ length (now room) ⌝ }
     ensures { λ r. ⌜ LineIn (fileLine (numberOf answer) (placeOf answer)) (now (room .entry)) r (now (room .exit)) × (r ≤ lineRoom) ⌝ }
 {
-    let mut line = [0u8; 24];
+    let mut line = [0u8; LINE_ROOM];
     let size = lines::file_line(answer, &mut line);
     rows::copy8(&line[..size], room);
     size

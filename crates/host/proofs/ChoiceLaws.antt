@@ -3,26 +3,25 @@
 -- In order: no row applies at two places (`host-once`); the match's rows as rows of the call (`from-match`, `to-match`,
 -- `none-of-match`); the file's rows (`file-answered`, `early-file`); the job's n and p by the row of sizes (`chosen`); none of the six (`none-early`); these six write nothing
 -- (`early-silent`, `refused-early`). Assumes nothing.
-use mathlib.Core.Path.{_≡_, refl, sym, ap, _∙_, subst}
+use mathlib.Core.Path.{_≡_, refl, sym, _∙_, subst}
 use mathlib.Core.Bool.{true}
 use mathlib.Core.Logic.{_⊎_, inl, inr}
 use mathlib.Core.List.{List, map}
 use Prim.Native.Nat.{ℕ, _+_, _-_, _*_, _/_, _≤_, _<_}
 use native.Mathlib.Omega.{arith}
-use lib.ListN.{length, getD, replicate, List·getD-append}
-use Rattle.words.specs.Limits.{mostWords, mostSizes}
+use lib.ListN.{length, getD, replicate}
+use Rattle.words.specs.Limits.{mostWords}
 use Rattle.answering.specs.Answers.{Answered, NoneOf}
 use Rattle.answering.proofs.Orders.{each, answered-tested, passed-none, refused-first, none-first, none-both, carried, carried-back, none-carried}
 use Rattle.table.specs.Faults.{Row as MatchRow, Fault, number as matchNumber}
 use Rattle.table.proofs.OneAnswer.{fault-once}
-use Rattle.jobfile.specs.File.{countIn, wordsIn, pairsIn, sizesIn, GoodFile}
+use Rattle.jobfile.specs.File.{countIn, wordsIn, pairsIn, GoodFile}
 use Rattle.jobfile.specs.Faults.{FileRow, ReadFault, fileNumber, readOrder}
-use Rattle.jobfile.specs.Reader.{numberOf, placeOf, Judged, yieldedSizes, inRow, ReadOf}
+use Rattle.jobfile.specs.Reader.{numberOf, placeOf, Judged, ReadOf}
 use Rattle.jobfile.specs.declared.answers.FileAnswer.{FileAnswer}
-use Rattle.jobfile.specs.declared.answers.FileAnswer.the-variants.{Good}
 use Rattle.jobfile.specs.declared.sizes.Sizes.{Sizes}
-use Rattle.jobfile.proofs.FileLaws.{length-sizesFrom, entry-in-sizes}
 use Rattle.jobfile.proofs.ReaderLaws.{read-once, good-judged, judged-good, good-number}
+use Rattle.jobfile.proofs.Theorems.{good-count, good-entry}
 use Rattle.jobfile.specs.Jobs.{entryOf, wordsOf}
 use Rattle.host.specs.Host.{calledJob, HostRow, of-file, JOB, SIZE, ROOM, of-match, hostNumber, HostFault, file-fault, job-fault, size-fault, room-fault, match-fault, callRows, earlyOrder, lateOrder, reportOf, writesNothing, HostOf}
 use Rattle.host.specs.Steps.Choice.{Sized, no-size, no-room, fits, Numbered, no-job, there, Early, JobFound, Choice}
@@ -138,17 +137,9 @@ numbered-there {chosen = chosen} some-job inside e f s = there {chosen = chosen}
 
 pub chosen-numbered : {bytes : List ℕ} {job : ℕ} (room : List ℕ) {answer : FileAnswer} {sizes : Sizes} {r : ℕ} {chosen : Chosen} → ReadOf bytes answer sizes → r ≡ numberOf answer → r ≡ 0
     → Numbered (sizes .row) (sizes .count / 2) job (length room) chosen → Choice bytes job room chosen
-unfolding inRow
 chosen-numbered {bytes} {job} room {answer} {sizes} read e z by =
-    let is : answer ≡ Good = good-number answer (sym e ∙ z) in
-    let row : sizes .row ≡ inRow (sizesIn bytes) = read .yielded .numbers ∙ ap (λ (q : FileAnswer). inRow (yieldedSizes q bytes)) is in
-    let counted : sizes .count ≡ length (sizesIn bytes) = read .yielded .counted ∙ ap (λ (q : FileAnswer). length (yieldedSizes q bytes)) is in
-    let size : length (sizesIn bytes) ≡ 2 * countIn bytes = length-sizesFrom (countIn bytes) 0 bytes in
-    let at : (i : ℕ) → i < 2 * countIn bytes → getD (sizes .row) i 0 ≡ getD (sizesIn bytes) i 0 =
-    λ i h. ap (λ (l : List ℕ). getD l i 0) row ∙ List·getD-append (sizesIn bytes) (replicate (mostSizes - length (sizesIn bytes)) 0) 0 i (omega arith) in
-    numbered-choice bytes job room (judged-good (subst (Judged bytes) is (read .judged))) (sizes .row) (omega arith)
-    (λ k h. let held = entry-in-sizes bytes k h in (at (2 * k) (omega arith) ∙ held .0, at (2 * k + 1) (omega arith) ∙ held .1))
-    by
+    let good : GoodFile bytes = judged-good (subst (Judged bytes) (good-number answer (sym e ∙ z)) (read .judged)) in
+    numbered-choice bytes job room good (sizes .row) (omega (arith, good-count good read)) (good-entry good read) by
 
 -- ---- these six write nothing
 

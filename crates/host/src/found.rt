@@ -15,8 +15,7 @@ const SMALL: usize = 64;
 
 const MIDDLE: usize = 512;
 
-// Matches the job of n words and p pairs in the fronts of rows that have room for it. The row for its list has 514 entries,
-// one pair more than a list may hold, so that a longer list is refused too.
+// Matches the job of n words and p pairs in the fronts of rows that have room for it.
 fn match_in(
     file: &[u8],
     job: usize,

@@ -5,6 +5,7 @@
 --     writer-writes-good         the writer writes only good files, with the sizes and bodies that it was sent
 --     good-read-written-again    a good file read and written again has the same bytes
 --     jobs-written, jobs-read-back    jobs written to a file are read back as the same jobs: sizes, words and pairs
+--     good-count, good-entry     how many sizes a good file has, and where n and p of an entry stand
 --     job-body                   job k of a file is what its own body holds
 --     cut-not-good               the front of a good file is not good
 --     read-sizes, read-count, read-length    which sizes count, that they are at most 128, and how long their row is
@@ -15,7 +16,7 @@ use mathlib.Core.Path.{_≡_, refl, sym, ap, ap₂, _∙_, subst}
 use mathlib.Core.List.{List, _++_}
 use Prim.Native.Nat.{ℕ, zero, suc, _+_, _-_, _*_, _≤_, _<_}
 use native.Mathlib.Omega.{arith}
-use lib.ListN.{length, take, drop, getD, replicate, length-replicate, length-append}
+use lib.ListN.{length, take, drop, getD, replicate, length-replicate, length-append, List·getD-append}
 use lib.Seq.{take-at, take-take, length-take-le}
 use Rattle.rows.specs.LittleEndian.{fromBytes, numberAt, AllBytes}
 use Rattle.words.specs.Limits.{mostSizes}
@@ -30,7 +31,7 @@ use Rattle.jobfile.specs.declared.answers.FileAnswer.the-variants.{Good,
 use Rattle.jobfile.specs.declared.answers.WriteAnswer.{WriteAnswer}
 use Rattle.jobfile.specs.declared.answers.WriteAnswer.the-variants.{Written}
 use Rattle.jobfile.specs.declared.sizes.Sizes.{Sizes}
-use Rattle.jobfile.proofs.FileLaws.{length-sizesFrom}
+use Rattle.jobfile.proofs.FileLaws.{length-sizesFrom, entry-in-sizes}
 use Rattle.jobfile.proofs.ReaderLaws.{judged-only, good-judged, judged-good}
 use Rattle.jobfile.proofs.WriteAnswers.{written-writable, writable-written}
 use Rattle.jobfile.proofs.Written.{Writable, written-good, written-sizes, written-bodies, good-again, good-writable}
@@ -55,6 +56,21 @@ read-sizes r = held (r .yielded)
 module _ {bytes : List ℕ} (good : GoodFile bytes) where
   pub good-sizes : {answer : FileAnswer} {sizes : Sizes} → ReadOf bytes answer sizes → take (sizes .count) (sizes .row) ≡ sizesIn bytes
   good-sizes r = read-sizes r ∙ ap (λ (q : FileAnswer). yieldedSizes q bytes) (reader-accepts-good r .1 good)
+
+  pub good-count : {answer : FileAnswer} {sizes : Sizes} → ReadOf bytes answer sizes → sizes .count ≡ 2 * countIn bytes
+  good-count r = r .yielded .counted ∙ ap (λ (q : FileAnswer). length (yieldedSizes q bytes)) (reader-accepts-good r .1 good) ∙ length-sizesFrom (countIn bytes) 0 bytes
+
+  -- n and p of entry k, in the row by value
+  pub good-entry : {answer : FileAnswer} {sizes : Sizes} → ReadOf bytes answer sizes → (k : ℕ) → k < countIn bytes
+      → (getD (sizes .row) (2 * k) 0 ≡ wordsIn bytes k) × (getD (sizes .row) (2 * k + 1) 0 ≡ pairsIn bytes k)
+  unfolding inRow
+  good-entry {sizes = sizes} r k h =
+      let row : sizes .row ≡ inRow (sizesIn bytes) = r .yielded .numbers ∙ ap (λ (q : FileAnswer). inRow (yieldedSizes q bytes)) (reader-accepts-good r .1 good) in
+      let at : (i : ℕ) → i < 2 * countIn bytes → getD (sizes .row) i 0 ≡ getD (sizesIn bytes) i 0 =
+      λ i l. ap (λ (xs : List ℕ). getD xs i 0) row
+      ∙ List·getD-append (sizesIn bytes) (replicate (mostSizes - length (sizesIn bytes)) 0) 0 i (omega (arith, length-sizesFrom (countIn bytes) 0 bytes)) in
+      let held = entry-in-sizes bytes k h in
+      (at (2 * k) (omega arith) ∙ held .0, at (2 * k + 1) (omega arith) ∙ held .1)
 
   pub good-bodies : {part : List ℕ} → BodiesOf bytes part → part ≡ bodiesIn bytes
   good-bodies b = b .yielded ∙ ap (λ (q : FileAnswer). yieldedBodies q bytes) (judged-only (b .answer) Good (b .judged) (good-judged good))

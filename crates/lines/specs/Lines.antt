@@ -52,7 +52,7 @@ pub record LineIn (line row : List ℕ) (r : ℕ) (after : List ℕ) : Type 0 wh
   pub long : r ≡ length line
   pub there : after ≡ line ++ drop (length line) row
 
--- Text of this kind stands at the front of a row and is so long; the bytes after it stay.
+-- Text of this kind, of r bytes, stands at the front of a row; the bytes after it stay.
 pub record TextIn (Text : List ℕ → Type 0) (row : List ℕ) (r : ℕ) (after : List ℕ) : Type 0 where
   pub text : List ℕ
   pub is : Text text

@@ -12,8 +12,11 @@ use jobfile::answers::FileAnswer;
 use words::numbers::Address;
 use words::numbers::Label;
 
+// No line is longer: four numbers of five digits, with a byte after each.
+pub const LINE_ROOM: usize = 24;
+
 // `job answer place joins`, the words themselves: what stands above the jobs.
-pub fn header_line(line: &mut [u8; 24]) -> usize
+pub fn header_line(line: &mut [u8; LINE_ROOM]) -> usize
     ensures { λ r. ⌜ Counts r (now (line .exit)) ⌝ }
     ensures { λ r. ⌜ LineIn headerLine (now (line .entry)) r (now (line .exit)) ⌝ }
     ensures { λ r. ⌜ r ≤ lineRoom ⌝ }
@@ -23,7 +26,7 @@ pub fn header_line(line: &mut [u8; 24]) -> usize
 }
 
 // A job's number and its answer, place and joins.
-pub fn job_line(job: u16, answer: u16, place: u16, joins: u16, line: &mut [u8; 24]) -> usize
+pub fn job_line(job: u16, answer: u16, place: u16, joins: u16, line: &mut [u8; LINE_ROOM]) -> usize
     ensures { λ r. ⌜ Counts r (now (line .exit)) ⌝ }
     ensures { λ r. ⌜ LineIn (jobLine job answer place joins) (now (line .entry)) r (now (line .exit)) ⌝ }
     ensures { λ r. ⌜ r ≤ lineRoom ⌝ }
@@ -35,7 +38,7 @@ pub fn job_line(job: u16, answer: u16, place: u16, joins: u16, line: &mut [u8; 2
 }
 
 // `v`, then a variable's address, label and class name.
-pub fn variable_line(at: Address, label: Label, name: Address, line: &mut [u8; 24]) -> usize
+pub fn variable_line(at: Address, label: Label, name: Address, line: &mut [u8; LINE_ROOM]) -> usize
     ensures { λ r. ⌜ Counts r (now (line .exit)) ⌝ }
     ensures { λ r. ⌜ LineIn (variableLine (at .0) (label .0) (name .0)) (now (line .entry)) r (now (line .exit)) ⌝ }
     ensures { λ r. ⌜ r ≤ lineRoom ⌝ }
@@ -47,7 +50,7 @@ pub fn variable_line(at: Address, label: Label, name: Address, line: &mut [u8; 2
 }
 
 // `file`, then the number and the place of the answer by which a file is refused.
-pub fn file_line(answer: FileAnswer, line: &mut [u8; 24]) -> usize
+pub fn file_line(answer: FileAnswer, line: &mut [u8; LINE_ROOM]) -> usize
     ensures { λ r. ⌜ Counts r (now (line .exit)) ⌝ }
     ensures { λ r. ⌜ LineIn (fileLine (numberOf answer) (placeOf answer)) (now (line .entry)) r (now (line .exit)) ⌝ }
     ensures { λ r. ⌜ r ≤ lineRoom ⌝ }

@@ -1,10 +1,9 @@
 -- A job taken out of its file, matched and told. In order: its rows (`rows-for-job`); what was taken is the job (`job-matched`);
 -- an accepted table fits (`accepted-fits`); the lines are the job's (`job-told`). Assumes nothing.
 use mathlib.Core.Path.{_≡_, refl, sym, ap, ap₂, _∙_, subst}
-use mathlib.Core.Logic.{inr}
 use mathlib.Core.List.{List, [], _++_}
 use Prim.Native.Nat.{ℕ, _+_, _*_, _≤_}
-use native.Mathlib.Decide.{ℕ-discrete, decLe}
+use native.Mathlib.Decide.{ℕ-discrete}
 use native.Mathlib.Omega.{arith}
 use lib.ListN.{length, take, drop}
 use lib.Seq.{take-all, length-take-le}
@@ -13,9 +12,11 @@ use Rattle.answering.specs.Answers.{Answered}
 use Rattle.answering.proofs.Orders.{passed-none}
 use Rattle.graphs.specs.Partition.{ClassTable, joins}
 use Rattle.table.specs.Table.{graphOf}
-use Rattle.table.specs.Faults.{sent, Fault, size-fault, number, matchOrder}
+use Rattle.table.specs.Faults.{sent, Fault, number, matchOrder}
 use Rattle.matcher.specs.Match.{numberOf, placeOf, joinsOf, AcceptedWith, MatchOf}
 use Rattle.matcher.specs.declared.answer.Matched.{Matched}
+use Rattle.matcher.proofs.Verdicts.{ready}
+use Rattle.matcher.proofs.Demands.{accepted-passes}
 use Rattle.matcher.proofs.OneMatch.{refused-joins}
 use Rattle.jobfile.specs.File.{wordsIn, pairsIn, bodyStart, bodyIn}
 use Rattle.jobfile.specs.Jobs.{FileJob, entriesOf, entryOf, wordsOf, listOf, JobThere, JobTaken}
@@ -73,14 +74,7 @@ job-matched {file} {list = list} {class} {work} {t = t} {l} {class-after} {work-
 -- ---- an accepted table
 
 pub accepted-fits : {t l class work class-after work-after : List ℕ} {answer : Matched} → MatchOf t l class work answer class-after work-after → numberOf answer ≡ 0 → length t ≤ mostWords
-unfolding number
-accepted-fits {t} {l} {class} {work} {answer = answer} m z = go (decLe (length t) mostWords)
-  where
-    go : Dec (length t ≤ mostWords) → length t ≤ mostWords
-    go (yes h) = h
-    go (no h) =
-        let job = sent t l (length class) (length work) in
-        absurd (passed-none number (Fault job) matchOrder (numberOf answer) (placeOf answer) refl z (m .answered) .0 .0 0 (size-fault (inr (omega arith))))
+accepted-fits m z = ready (accepted-passes m z) .passed .readable .small
 
 -- ---- its lines
 

@@ -6,7 +6,7 @@
 -- Assumes nothing.
 use mathlib.Core.Path.{_≡_, refl, sym, ap, ap₂, _∙_, subst}
 use mathlib.Core.List.{List, [], _∷_, _++_, append-nil}
-use Prim.Native.Nat.{ℕ, zero, suc, _+_, _/_, _≤_, _<_}
+use Prim.Native.Nat.{ℕ, zero, suc, _+_, _≤_, _<_}
 use native.Mathlib.Omega.{arith}
 use lib.ListN.{length, take, getD}
 use Rattle.answering.specs.Answers.{Answered}
@@ -16,18 +16,14 @@ use Rattle.graphs.proofs.Theorems.{class-table-only}
 use Rattle.table.specs.Table.{graphOf}
 use Rattle.table.specs.Faults.{Fault, number, matchOrder}
 use Rattle.table.proofs.OneAnswer.{fault-once}
-use Rattle.jobfile.specs.File.{GoodFile, countIn, sizesFrom, bodiesIn, jobCount}
+use Rattle.jobfile.specs.File.{GoodFile, countIn, sizesFrom, bodiesIn}
 use Rattle.jobfile.specs.Faults.{fileNumber, ReadFault, readOrder}
 use Rattle.jobfile.specs.Jobs.{FileJob, jobsFrom, jobsIn, entryOf}
-use Rattle.jobfile.specs.Reader.{Judged, yieldedSizes}
-use Rattle.jobfile.specs.declared.answers.FileAnswer.{FileAnswer}
-use Rattle.jobfile.specs.declared.answers.FileAnswer.the-variants.{Good, File, Contents, Body}
-use Rattle.jobfile.proofs.FileLaws.{length-sizesFrom}
-use Rattle.jobfile.proofs.ReaderLaws.{answered-once, judged-only, good-judged, judged-good}
+use Rattle.jobfile.proofs.ReaderLaws.{answered-once, good-judged}
 use Rattle.lines.specs.Lines.{headerLine, jobLine, fileLine, TextIn}
 use Rattle.lines.proofs.LineLaws.{text-written}
 use Rattle.listing.specs.Listing.{variableLines, sentFor, JobListed, job-refused, job-accepted, JobsListed, no-jobs, next-job, ListingOf, file-refused, file-listed}
-use Rattle.listing.specs.Parts.{FirstLine, refusal, header, JobsTold, jobAt, JobPart, lines-there, nothing-there}
+use Rattle.listing.specs.Parts.{FirstLine, refusal, header, JobsTold, all-of-good, none-of-refused, jobAt, JobPart, lines-there, nothing-there}
 
 -- ---- one listing
 
@@ -67,8 +63,10 @@ first-line-only x y (header good) (refusal b other) = absurd (not-good b other g
 first-line-only x y (header good) (header also) = refl
 
 pub jobs-told-only : {file : List ℕ} {m n : ℕ} → JobsTold file m → JobsTold file n → m ≡ n
-jobs-told-only {file} a b =
-    a .counted ∙ ap (λ (q : FileAnswer). jobCount (yieldedSizes q file)) (judged-only (a .answer) (b .answer) (a .judged) (b .judged)) ∙ sym (b .counted)
+jobs-told-only (all-of-good good) (all-of-good also) = refl
+jobs-told-only (all-of-good good) (none-of-refused bad) = absurd (bad good)
+jobs-told-only (none-of-refused bad) (all-of-good good) = absurd (bad good)
+jobs-told-only (none-of-refused bad) (none-of-refused also) = refl
 
 pub job-part-only : {file : List ℕ} {job : ℕ} (x y : List ℕ) → JobPart file job x → JobPart file job y → x ≡ y
 job-part-only x y (lines-there t a) (lines-there u b) = job-listed-only x y a b
@@ -102,18 +100,10 @@ length-jobs (suc m) k bytes bodies = ap suc (length-jobs m (suc k) bytes _)
 
 module _ {file : List ℕ} {jobs : ℕ} (told : JobsTold file jobs) where
   told-of-good : GoodFile file → jobs ≡ countIn file
-  told-of-good good =
-      let e : jobs ≡ length (yieldedSizes Good file) / 2 = told .counted ∙ ap (λ (q : FileAnswer). jobCount (yieldedSizes q file)) (judged-only (told .answer) Good (told .judged) (good-judged good)) in
-      omega (arith, e, length-sizesFrom (countIn file) 0 file)
+  told-of-good good = jobs-told-only told (all-of-good good)
 
   told-of-refused : (GoodFile file → ⊥) → jobs ≡ 0
-  told-of-refused bad = go (told .answer) (told .judged) (told .counted)
-    where
-      go : (q : FileAnswer) → Judged file q → jobs ≡ jobCount (yieldedSizes q file) → jobs ≡ 0
-      go Good judged e = absurd (bad (judged-good judged))
-      go File judged e = e
-      go Contents judged e = e
-      go (Body entry) judged e = e
+  told-of-refused bad = jobs-told-only told (none-of-refused bad)
 
   job-part-listed : {job : ℕ} {lines : List ℕ} → GoodFile file → 1 ≤ job → job ≤ countIn file → JobPart file job lines → JobListed job (jobAt file job) lines
   job-part-listed good some-job inside (lines-there there listed) = listed

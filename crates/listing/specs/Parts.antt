@@ -5,11 +5,9 @@ use mathlib.Core.List.{List, []}
 use Prim.Native.Nat.{ℕ}
 use lib.ListN.{getD}
 use Rattle.answering.specs.Answers.{Answered}
-use Rattle.jobfile.specs.File.{GoodFile, jobCount}
+use Rattle.jobfile.specs.File.{GoodFile, countIn}
 use Rattle.jobfile.specs.Faults.{fileNumber, ReadFault, readOrder}
 use Rattle.jobfile.specs.Jobs.{FileJob, jobsIn, entryOf, JobThere}
-use Rattle.jobfile.specs.Reader.{Judged, yieldedSizes}
-use Rattle.jobfile.specs.declared.answers.FileAnswer.{FileAnswer}
 use Rattle.lines.specs.Lines.{headerLine, fileLine}
 use Rattle.listing.specs.Listing.{JobListed}
 
@@ -18,11 +16,10 @@ pub data FirstLine (file : List ℕ) : List ℕ → Type 0 where
   refusal : {answer place : ℕ} → Answered fileNumber (ReadFault file) readOrder answer place → (answer ≡ 0 → ⊥) → FirstLine file (fileLine answer place)
   header : GoodFile file → FirstLine file headerLine
 
--- how many jobs are told: as many as the reader yields sizes of, and so none of a refused file
-pub record JobsTold (file : List ℕ) (jobs : ℕ) : Type 0 where
-  pub answer : FileAnswer
-  pub judged : Judged file answer
-  pub counted : jobs ≡ jobCount (yieldedSizes answer file)
+-- how many jobs are told: all of a good file, and none of a refused one
+pub data JobsTold (file : List ℕ) : ℕ → Type 0 where
+  all-of-good : GoodFile file → JobsTold file (countIn file)
+  none-of-refused : (GoodFile file → ⊥) → JobsTold file 0
 
 -- the job of a number, from 1
 abbrev pub jobAt : List ℕ → ℕ → FileJob

@@ -10,6 +10,7 @@ ghost use Rattle.listing.specs.Listing.{JobListed};
 ghost use Rattle.listing.specs.Parts.{jobAt};
 ghost use Rattle.listing.specs.Steps.Putting.{jobRoom, Tellable, answerLine, AnswerTold, RowsForListing};
 use crate::variables;
+use lines::LINE_ROOM;
 use matcher::answer;
 use matcher::answer::Matched;
 use words::limits::MOST_BYTES;
@@ -20,7 +21,7 @@ fn put_job(job: u16, answer: Matched, row: &mut [u8]) -> usize
     requires { ⌜ jobRoom ≤ length (now row) ⌝ }
     ensures { λ r. ⌜ LineIn (answerLine job answer) (now (row .entry)) r (now (row .exit)) × (r ≤ lineRoom) ⌝ }
 {
-    let mut line = [0u8; 24];
+    let mut line = [0u8; LINE_ROOM];
     let size = lines::job_line(
         job,
         answer::number(answer),

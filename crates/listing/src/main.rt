@@ -9,12 +9,13 @@ mod variables;
 use libc::STDERR_FILENO;
 use libc::STDIN_FILENO;
 use libc::STDOUT_FILENO;
+use lines::LINE_ROOM;
 use parts::JOB_ROOM;
 use words::limits::MOST_BYTES;
 
 // Writes the first line, and says whether all of it was written.
 fn write_first_line(file: &[u8]) -> bool {
-    let mut line = [0u8; 24];
+    let mut line = [0u8; LINE_ROOM];
     let size = parts::first_line(file, &mut line);
     io::write_all(STDOUT_FILENO, &line[..size])
 }

@@ -4,13 +4,14 @@ ghost use Rattle.lines.specs.Lines.{TextIn, Counts};
 ghost use Rattle.listing.specs.Parts.{FirstLine, JobsTold, JobPart};
 use crate::job;
 use jobfile::answers;
+use lines::LINE_ROOM;
 use words::limits::MOST_WORDS;
 
-// A line has at most 24 bytes, and a job one for itself and at most one for each word.
-pub(crate) const JOB_ROOM: usize = 24 * (1 + MOST_WORDS);
+// A job has a line for itself and at most one for each word.
+pub(crate) const JOB_ROOM: usize = LINE_ROOM * (1 + MOST_WORDS);
 
 // The line of a refused file, or the header.
-pub(crate) fn first_line(file: &[u8], line: &mut [u8; 24]) -> usize
+pub(crate) fn first_line(file: &[u8], line: &mut [u8; LINE_ROOM]) -> usize
     ensures { λ r. ⌜ Counts r (now (line .exit)) ⌝ }
     ensures { λ r. ⌜ TextIn (FirstLine (now (file .entry))) (now (line .entry)) r (now (line .exit)) ⌝ }
 {

@@ -4,6 +4,7 @@ ghost use lib.ListN.{length};
 ghost use Rattle.lines.specs.Lines.{variableLine, lineRoom};
 ghost use Rattle.listing.specs.Listing.{lineAt, variableLines};
 ghost use Rattle.listing.specs.Steps.Putting.{jobRoom, PutAt, Tellable};
+use lines::LINE_ROOM;
 use words::kind::Kind;
 use words::numbers::Address;
 use words::numbers::Label;
@@ -14,7 +15,7 @@ fn put_variable(x: Address, label: Label, name: Address, row: &mut [u8], at: usi
     requires { ⌜ at + lineRoom ≤ length (now row) ⌝ }
     ensures { λ r. ⌜ PutAt (variableLine (x .0) (label .0) (name .0)) at (now (row .entry)) r (now (row .exit)) × (r ≤ at + lineRoom) ⌝ }
 {
-    let mut line = [0u8; 24];
+    let mut line = [0u8; LINE_ROOM];
     let size = lines::variable_line(x, label, name, &mut line);
     rows::copy8(&line[..size], &mut row[at..]);
     at + size
