@@ -46,10 +46,11 @@ uint64_t must_agree(const struct job *job, const char *what) {
 
 static const uint32_t tags[] = {0, 16, 17, 18, 19, 20, 24, 25, 32, 1u << 12};
 
-/* Another word in some place: any tag, a small content. */
+/* Another word in some place: any tag, a small content. It is often 0, which two variables may have. */
 static void damage(struct job *job, struct numbers *numbers) {
     uint32_t tag = tags[below(numbers, sizeof tags / sizeof tags[0])];
-    job->table[below(numbers, (uint32_t)job->words)] = tag << 16 | below(numbers, 20);
+    uint32_t content = below(numbers, 3) == 0 ? 0 : below(numbers, 20);
+    job->table[below(numbers, (uint32_t)job->words)] = tag << 16 | content;
 }
 
 void must_agree_on_damaged_jobs(void) {

@@ -91,6 +91,15 @@ static void low_bits(struct job *job, size_t words, uint32_t which) {
     put_pair(job, 1, 2);
 }
 
+/* Any number of variables may have label 0, which is no name. */
+static void unnamed(struct job *job, size_t words, uint32_t which) {
+    (void)which;
+    begin_job(job);
+    while (job->words < words)
+        put_word(job, STATION_VARIABLE(0));
+    put_pair(job, 1, 2);
+}
+
 const struct family families[] = {
     {"example-2-25", "document 000's example 2, n = 25", example_2_of_25, 0, {55}, 55},
     {"example-2-128", "document 000's example 2, n = 128", example_2_of_128, 0, {261}, 261},
@@ -101,6 +110,7 @@ const struct family families[] = {
     {"pairs", "a pair for each 16 words, 256 at most", many_pairs, 0, {4096}, 64},
     {"late-cycle", "a cycle closed by the last pair, 256 at most", late_cycle, 0, {4096}, 64},
     {"low-bits", "variables whose labels agree in their low bits", low_bits, 0, {4096}, 64},
+    {"unnamed", "variables that all have label 0", unnamed, 0, {4096}, 64},
     {"random-met", "random tables, lists that can be met", random_met, 1, {64, 512, 4096}, 64},
     {"random-any", "random tables, lists as they come", random_any, 1, {64, 512, 4096}, 64},
 };

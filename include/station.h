@@ -34,8 +34,8 @@ extern "C" {
  * The first number grows when a program that was right before may be wrong now, the second when something is
  * added. To compare: 10,000 x the first + 100 x the second + the third.
  */
-#define STATION_VERSION "1.1.0"
-#define STATION_VERSION_NUMBER 10100
+#define STATION_VERSION "1.2.0"
+#define STATION_VERSION_NUMBER 10200
 
 /* ---- limits ---- */
 #define STATION_MOST_WORDS 4096    /* of a table, with word 0 */
@@ -68,7 +68,7 @@ enum station_answer {
     STATION_WORD = 3,      /* not a word: its tag, its high bits, or a count of 0 or over 255 */
     STATION_LAYOUT = 4,    /* the row of items breaks */
     STATION_POINTER = 5,   /* a pointer names no node */
-    STATION_NAME = 6,      /* a variable's label stood earlier */
+    STATION_NAME = 6,      /* a variable's label, not 0, stood earlier */
     STATION_LOOP = 7,      /* a node reaches itself through children */
     STATION_LIST = 8,      /* an odd number of entries, or over 512 */
     STATION_ADDRESS = 9,   /* a side of a pair is not the address of a node */
@@ -84,6 +84,10 @@ enum station_answer {
  *
  * A word is tag x 65,536 + content. Word 0 of a table is the number 0. A function word is followed by a
  * count word and that many argument words, each a variable, a constant or a pointer.
+ *
+ * Variables are told apart by their addresses. A label names one, and may stand at no other; to use a
+ * variable again, point to it. Label 0 is no name: any number of variables may have it, and every one is
+ * a different variable. Labels of constants and functions are another matter, and 0 is one like any other.
  */
 enum station_tag {
     STATION_TAG_VARIABLE = 16,
@@ -94,6 +98,7 @@ enum station_tag {
 };
 
 #define STATION_VARIABLE(label) ((uint32_t)STATION_TAG_VARIABLE << 16 | (uint16_t)(label))
+#define STATION_UNNAMED STATION_VARIABLE(0)
 #define STATION_CONSTANT(label) ((uint32_t)STATION_TAG_CONSTANT << 16 | (uint16_t)(label))
 #define STATION_FUNCTION(label) ((uint32_t)STATION_TAG_FUNCTION << 16 | (uint16_t)(label))
 #define STATION_POINTER_TO(address) ((uint32_t)STATION_TAG_POINTER << 16 | (uint16_t)(address))

@@ -1,7 +1,7 @@
 -- Ordered rows.
 --
 -- In order: one answer at one place (`answered-only`); a test that every row passes (`each`), and what it says of an answer
--- (`answered-tested`, `passed-none`); an order put together from two and taken apart (`refused-first`, `none-first`, `none-parts`,
+-- (`answered-tested`, `passed-none`); the row that an answer is given by (`answered-row`); an order put together from two and taken apart (`refused-first`, `none-first`, `none-parts`,
 -- `answered-parts`); rows that apply alike (`answered-alike`); rows carried over to other rows (`carried`). Assumes nothing.
 use mathlib.Core.Path.{_≡_, refl, sym, ap, _∙_}
 use mathlib.Core.Bool.{Bool, true, false, _&&_, true≢false}
@@ -35,6 +35,12 @@ module _ {Row : Type 0} (test : Row → Bool) (row : Row) (rows : List Row) (t :
   rest-passes : each test rows ≡ true
   rest-passes = both (test row) (each test rows) t .1
 
+-- the row that gives a number, at a place
+pub record GivenBy {Row : Type 0} (number : Row → ℕ) (Applies : Row → ℕ → Type 0) (a p : ℕ) : Type 0 where
+  pub row : Row
+  pub number-is : a ≡ number row
+  pub applies : Applies row p
+
 module _ {Row : Type 0} (number : Row → ℕ) (Applies : Row → ℕ → Type 0) where
   -- Two answers that an ordered list of rows allows are equal, where no row applies at two places.
   pub answered-only : ((row : Row) (p q : ℕ) → Applies row p → Applies row q → p ≡ q) → (rows : List Row) (a p b q : ℕ) → Answered number Applies rows a p
@@ -64,6 +70,12 @@ module _ {Row : Type 0} (number : Row → ℕ) (Applies : Row → ℕ → Type 0
   passed-none (row ∷ rows) a p t z (inl (e, x)) = absurd (not-zero row rows t e z)
   passed-none (row ∷ rows) a p t z (inr (none-applies, later)) =
       let rest = passed-none rows a p (rest-passes (λ r. ltb 0 (number r)) row rows t) z later in ((none-applies, rest .0), rest .1)
+
+  -- A number other than 0 is given by a row that applies.
+  pub answered-row : (rows : List Row) (a p : ℕ) → (a ≡ 0 → ⊥) → Answered number Applies rows a p → GivenBy number Applies a p
+  answered-row [] a p refused (x, y) = absurd (refused x)
+  answered-row (row ∷ rows) a p refused (inl (e, x)) = record { row = row; number-is = e; applies = x }
+  answered-row (row ∷ rows) a p refused (inr (none-applies, later)) = answered-row rows a p refused later
 
   -- ---- two parts
 

@@ -2,7 +2,7 @@
 --   repeats-inside   a repeated name stands in the table
 --   put-front      two stores put a variable in front of its chain
 --   stays-same, stays-on     what of the work row stays
---   chained-pass   an address that is no variable is passed by
+--   chained-unnamed, chained-pass   an address that is no variable with a name, or none at all, is passed by
 --   judged-..      the three ways in which an address is judged
 --   chained-none   a cleared row has empty chains
 --   NoneYet        no address passed repeats a name; none-first, none-more
@@ -23,16 +23,16 @@ use Rattle.words.specs.Word.{kindOf}
 use Rattle.words.specs.declared.kind.Kind.the-variants.{Variable}
 use Rattle.table.specs.Table.{wordAt, kindAt, contentAt, nodeKind}
 use Rattle.table.proofs.Readable.{inside-kind}
-use Rattle.table.specs.Faults.{Repeats}
+use Rattle.table.specs.Faults.{NamedVariable, Repeats}
 use Rattle.checker.specs.Steps.Names.{Either, startOf, headIn, nextIn, RestStays, Chained, ChainedOn, NameJudged, FirstRepeated}
 use Rattle.checker.proofs.ChainLaws.{chains-none, chains-pass, chains-more, InFront}
 
 pub repeats-inside : {t : List ℕ} {a : ℕ} → Repeats t a → a < length t
-repeats-inside {t} {a} r = inside-kind t a nodeKind refl (ap nodeKind (r .later))
+repeats-inside {t} {a} r = inside-kind t a nodeKind refl (ap nodeKind (r .later .variable-here))
 
 -- no variable stands at address 0
-past-first : {t work : List ℕ} {a : ℕ} → Chained t work a → kindAt t a ≡ Variable → a ≡ 0 → ⊥
-past-first {t} c k e = let z : _≡_ {A = ℕ} 0 1 = cc (c .no-variable, ap (kindAt t) e) in omega arith
+past-first : {t work : List ℕ} {a : ℕ} → Chained t work a → NamedVariable t a → a ≡ 0 → ⊥
+past-first {t} c k e = let z : _≡_ {A = ℕ} 0 1 = cc (c .no-variable, k .variable-here, ap (kindAt t) e) in omega arith
 
 -- the link of the variable at a is stored, and then the start of its chain
 abbrev pub linked : List ℕ → List ℕ → ℕ → ℕ → List ℕ
@@ -56,7 +56,7 @@ module _ (t work : List ℕ) (a h : ℕ) (room : 4 * length t ≤ length work) (
         ∙ getD-set-other work (3 * length t + a) (3 * length t + v) (getD work h 0) 0 (λ q. e (omega arith));
   }
 
-  pub put-front : Chained t work a → h ≡ startOf (contentAt t a) (3 * length t) → kindAt t a ≡ Variable → ChainedOn t work (fronted t work a h) (a + 1)
+  pub put-front : Chained t work a → h ≡ startOf (contentAt t a) (3 * length t) → NamedVariable t a → ChainedOn t work (fronted t work a h) (a + 1)
   put-front c slot k = record {
     chained = record {
       no-variable = c .no-variable;
@@ -81,13 +81,16 @@ stays-same t work = record { rest = refl; same-length = refl }
 pub stays-on : {t x y z : List ℕ} → RestStays t x y → RestStays t y z → RestStays t x z
 stays-on p q = record { rest = q .rest ∙ p .rest; same-length = q .same-length ∙ p .same-length }
 
-pub chained-pass : {t work : List ℕ} {a : ℕ} → Chained t work a → (kindAt t a ≡ Variable → ⊥) → Chained t work (a + 1)
-chained-pass c other = record { no-variable = c .no-variable; small = c .small; room = c .room; chains = chains-pass (c .chains) other }
+chained-unnamed : {t work : List ℕ} {a : ℕ} → Chained t work a → (NamedVariable t a → ⊥) → Chained t work (a + 1)
+chained-unnamed c other = record { no-variable = c .no-variable; small = c .small; room = c .room; chains = chains-pass (c .chains) other }
 
-pub judged-other : {t work : List ℕ} {a : ℕ} → Chained t work a → (kindAt t a ≡ Variable → ⊥) → NameJudged t work work a false
+pub chained-pass : {t work : List ℕ} {a : ℕ} → Chained t work a → (kindAt t a ≡ Variable → ⊥) → Chained t work (a + 1)
+chained-pass c other = chained-unnamed c (λ n. other (n .variable-here))
+
+pub judged-other : {t work : List ℕ} {a : ℕ} → Chained t work a → (NamedVariable t a → ⊥) → NameJudged t work work a false
 judged-other {t} {work} c other = record {
   verdict = λ r. other (r .later);
-  goes-on = record { chained = chained-pass c other; stays = stays-same t work };
+  goes-on = record { chained = chained-unnamed c other; stays = stays-same t work };
 }
 
 module _ {b : Bool} (t work : List ℕ) (a : ℕ) (told : Either b (Repeats t a) (Repeats t a → ⊥)) where

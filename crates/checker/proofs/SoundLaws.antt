@@ -94,7 +94,7 @@ one-word t wanted a h e g = record {
 module _ (t : List ℕ) (a : ℕ) (later : 0 < a) where
   -- a word that is no variable has no name
   other-good : (k : Kind) → kindAt t a ≡ k → sameKind k Variable ≡ false → badKind k (contentAt t a) ≡ false → (sameKind k Pointer && badTarget t (contentAt t a)) ≡ false → Good t a
-  other-good k e v w p = good-later t a k later e w p (λ r. not-both e v (r .later))
+  other-good k e v w p = good-later t a k later e w p (λ r. not-both e v (r .later .variable-here))
 
   pub variable-good : kindAt t a ≡ Variable → (Repeats t a → ⊥) → Good t a
   unfolding badKind

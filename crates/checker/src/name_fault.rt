@@ -1,6 +1,8 @@
-// Answer 6, NAME: "a variable's label stood earlier".
+// Answer 6, NAME: "a variable's label stood earlier", for every label but 0. A variable of label 0 has no
+// name: it is neither put into a chain nor looked for, so any number of them takes no more time than
+// others.
 //
-// The variables met so far are kept in chains in the work row, for a table of n words: the first 3n
+// The variables with names met so far are kept in chains in the work row, for a table of n words: the first 3n
 // entries begin the chains, each with its newest address, and entry 3n + a has the address that comes
 // after a. Address 0, which is no variable, ends a chain. Links fall, so a walk ends.
 //
@@ -13,12 +15,13 @@ ghost use Prim.Native.Nat.{_+_, _*_, _<_, _≤_};
 ghost use lib.ListN.{length};
 ghost use Rattle.words.specs.Limits.{mostWords};
 ghost use Rattle.words.specs.declared.kind.Kind.{Kind};
-ghost use Rattle.table.specs.Faults.{Repeats};
+ghost use Rattle.table.specs.Faults.{NamedVariable, Repeats};
 ghost use Rattle.table.specs.Readable.{Readable};
 ghost use Rattle.table.specs.Table.{wordAt, kindAt, contentAt};
 ghost use Rattle.checker.specs.Steps.Names.{Either, startOf, Chained, ChainedOn, NameJudged, FirstRepeated};
 use words::kind::Kind;
 use words::numbers::Label;
+use words::numbers::UNNAMED;
 use words::word;
 
 // A chain begins at one of 3n entries.
@@ -46,9 +49,9 @@ fn start(label: Label, starts: usize) -> usize
     spread * starts / LABELS
 }
 
-// Whether the label of the variable at an address stood earlier.
+// Whether the name of the variable at an address stood earlier.
 fn stood_earlier(table: &[u32], work: &[u16], at: usize) -> bool
-    requires { ⌜ Chained (now table) (now work) at × (at < length (now table)) × (kindAt (now table) at ≡ Kind.Variable) ⌝ }
+    requires { ⌜ Chained (now table) (now work) at × (at < length (now table)) × NamedVariable (now table) at ⌝ }
     ensures { λ r. ⌜ Either r (Repeats (now (table .entry)) at) (Repeats (now (table .entry)) at → ⊥) ⌝ }
 {
     let starts = STARTS_A_WORD * table.len();
@@ -65,7 +68,7 @@ fn stood_earlier(table: &[u32], work: &[u16], at: usize) -> bool
 
 // Puts the variable at an address in front of the chain of its label.
 fn put_in_front(table: &[u32], work: &mut [u16], at: usize)
-    requires { ⌜ Chained (now table) (now work) at × (at < length (now table)) × (kindAt (now table) at ≡ Kind.Variable) ⌝ }
+    requires { ⌜ Chained (now table) (now work) at × (at < length (now table)) × NamedVariable (now table) at ⌝ }
     ensures { λ _. ⌜ ChainedOn (now (table .entry)) (now (work .entry)) (now (work .exit)) (at + 1) ⌝ }
 {
     let starts = STARTS_A_WORD * table.len();
@@ -74,11 +77,14 @@ fn put_in_front(table: &[u32], work: &mut [u16], at: usize)
     work[first] = at as u16;
 }
 
-// Whether the variable at an address repeats a name. One that does not joins the chains.
+// Whether the variable at an address repeats a name. One that has a name and does not joins the chains.
 pub(crate) fn repeats_variable(table: &[u32], work: &mut [u16], at: usize) -> bool
     requires { ⌜ Chained (now table) (now work) at × (at < length (now table)) × (kindAt (now table) at ≡ Kind.Variable) ⌝ }
     ensures { λ r. ⌜ NameJudged (now (table .entry)) (now (work .entry)) (now (work .exit)) at r ⌝ }
 {
+    if label_at(table, at).0 == UNNAMED {
+        return false;
+    }
     if stood_earlier(table, work, at) {
         return true;
     }
@@ -86,7 +92,7 @@ pub(crate) fn repeats_variable(table: &[u32], work: &mut [u16], at: usize) -> bo
     false
 }
 
-// Whether the word at an address repeats a name. A variable that does not joins the chains.
+// Whether the word at an address repeats a name. A variable that has one and does not joins the chains.
 fn repeats_name(table: &[u32], work: &mut [u16], at: usize) -> bool
     requires { ⌜ Chained (now table) (now work) at × (at < length (now table)) ⌝ }
     ensures { λ r. ⌜ NameJudged (now (table .entry)) (now (work .entry)) (now (work .exit)) at r ⌝ }
@@ -106,7 +112,7 @@ pub(crate) fn begin_chains(table: &[u32], work: &mut [u16])
     rows::clear16(work, STARTS_A_WORD * table.len());
 }
 
-// The lowest address of a variable whose label stood earlier, or the table's length where there is
+// The lowest address of a variable whose name stood earlier, or the table's length where there is
 // none. The first 4n entries of the work row are written over, and nothing is said of them.
 pub(crate) fn first_repeated_name(table: &[u32], work: &mut [u16]) -> usize
     requires { ⌜ Readable (now table) × (4 * length (now table) ≤ length (now work)) ⌝ }

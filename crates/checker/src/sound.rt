@@ -26,7 +26,7 @@ fn is_sound_count(word: u32) -> bool
     }
 }
 
-// Whether the word at an address is a variable whose label is new, a constant, or a pointer to an
+// Whether the word at an address is a variable that repeats no name, a constant, or a pointer to an
 // address that it may name.
 fn is_sound_argument(table: &[u32], work: &mut [u16], at: usize) -> bool
     requires { ⌜ Chained (now table) (now work) at × (0 < at) × (at < length (now table)) ⌝ }

@@ -1,4 +1,5 @@
--- The three demands of the acceptance inspector, sentence by sentence, as theorems: a file for each demand.
+-- The three demands of the acceptance inspector, sentence by sentence, as theorems: a file for each demand. Then the requests of
+-- document 02 that have landed, a file for each: Unnamed is E1.
 --
 -- They are about contracts: what goes in, what comes back, and what is left in each lent row. The functions that have them have
 -- no `requires`. Of the entries that a host calls,
@@ -15,3 +16,4 @@
 pub mod One
 pub mod Two
 pub mod Three
+pub mod Unnamed

@@ -67,11 +67,11 @@ module _ {bytes : List ℕ} {job : ℕ} {room : List ℕ} (passes : HostPasses b
   -- ---- the answer of that match
 
   -- the answer of a match with these numbers
-  record Told (a p j : ℕ) : Type 0 where
-    r : Matched
-    number-is : numberOf r ≡ a
-    place-is : placeOf r ≡ p
-    joins-is : joinsOf r ≡ j
+  pub record Told (a p j : ℕ) : Type 0 where
+    pub r : Matched
+    pub number-is : numberOf r ≡ a
+    pub place-is : placeOf r ≡ p
+    pub joins-is : joinsOf r ≡ j
     late-is : changesNothing (numberOf r) ≡ false
     answered : Answered matchNumber (Fault (calledJob bytes job)) matchOrder a p
 
@@ -110,14 +110,14 @@ module _ {bytes : List ℕ} {job : ℕ} {room : List ℕ} (passes : HostPasses b
   abbrev work : List ℕ
   work = replicate (4 * wordsOf bytes job) 0
 
-  long : length table ≡ wordsOf bytes job
+  pub long : length table ≡ wordsOf bytes job
   long = length-rowIn 4 (wordsOf bytes job) (bodyIn bytes (entryOf job))
 
   same-job : lentJob table (listOf bytes job) class work ≡ calledJob bytes job
   same-job = ap₂ (sent table (listOf bytes job)) (length-replicate {A = ℕ} (wordsOf bytes job) 0) (length-replicate {A = ℕ} (4 * wordsOf bytes job) 0)
 
   module _ {a : ℕ} {room-after : List ℕ} (h : HostOf bytes job room a room-after) where
-    as-told : Told a (h .place) (h .joined)
+    pub as-told : Told a (h .place) (h .joined)
     as-told = told (λ refused. h .refused refused .0) (late a (h .place) (h .answered))
 
     abbrev matched : Matched
@@ -130,7 +130,7 @@ module _ {bytes : List ℕ} {job : ℕ} {room : List ℕ} (passes : HostPasses b
         ∙ ap (λ (l : List ℕ). replicate m 0 ++ l) (drop-of-length-le (replicate m 0) {i = m} (omega (arith, length-replicate {A = ℕ} m 0)))
         ∙ append-nil (replicate m 0)
 
-    as-match : MatchOf table (listOf bytes job) class work matched (h .classes) work
+    pub as-match : MatchOf table (listOf bytes job) class work matched (h .classes) work
     as-match = record {
       answered =
           subst (λ (j : Job). Answered matchNumber (Fault j) matchOrder (numberOf matched) (placeOf matched)) (sym same-job)
@@ -146,8 +146,8 @@ module _ {bytes : List ℕ} {job : ℕ} {room : List ℕ} (passes : HostPasses b
       work-left = sym (left-zero (4 * length table) (4 * wordsOf bytes job) (ap (λ (n : ℕ). 4 * n) long));
     }
 
-    lent-passes : Passes (lentJob table (listOf bytes job) class work)
-    lent-passes = subst (λ (j : Job). Passes j) (sym same-job) passes-match
+    pub called-passes : Passes (lentJob table (listOf bytes job) class work)
+    called-passes = subst (λ (j : Job). Passes j) (sym same-job) passes-match
 
     -- ---- the demands on that match, of the host call
 
@@ -156,27 +156,27 @@ module _ {bytes : List ℕ} {job : ℕ} {room : List ℕ} (passes : HostPasses b
 
     pub host-accepted-exactly : (a ≡ 0) ↔ Met (graphOf table) (pairsOf (listOf bytes job))
     host-accepted-exactly = (
-      λ z. accepted-exactly as-match lent-passes .0 (accepted z),
-      λ met. sym (as-told .number-is) ∙ accepted-exactly as-match lent-passes .1 met,
+      λ z. accepted-exactly as-match called-passes .0 (accepted z),
+      λ met. sym (as-told .number-is) ∙ accepted-exactly as-match called-passes .1 met,
     )
 
     pub host-accepted-exactly-counted : (a ≡ 0) ↔ MetCounted (graphOf table) (pairsOf (listOf bytes job))
     host-accepted-exactly-counted = (
-      λ z. accepted-exactly-counted as-match lent-passes .0 (accepted z),
-      λ met. sym (as-told .number-is) ∙ accepted-exactly-counted as-match lent-passes .1 met,
+      λ z. accepted-exactly-counted as-match called-passes .0 (accepted z),
+      λ met. sym (as-told .number-is) ∙ accepted-exactly-counted as-match called-passes .1 met,
     )
 
     pub host-refused-at-first : (k : ℕ) → (((a ≡ 10) ⊎ (a ≡ 11)) × (h .place ≡ k)) ↔ FirstUnmet (graphOf table) (pairsOf (listOf bytes job)) k
     host-refused-at-first k = (
-      λ x. refused-at-first as-match lent-passes k .0 (⊎-elim (λ e. inl (as-told .number-is ∙ e)) (λ e. inr (as-told .number-is ∙ e)) (x .0), as-told .place-is ∙ x .1),
-      λ f. let x = refused-at-first as-match lent-passes k .1 f in
+      λ x. refused-at-first as-match called-passes k .0 (⊎-elim (λ e. inl (as-told .number-is ∙ e)) (λ e. inr (as-told .number-is ∙ e)) (x .0), as-told .place-is ∙ x .1),
+      λ f. let x = refused-at-first as-match called-passes k .1 f in
           (⊎-elim (λ e. inl (sym (as-told .number-is) ∙ e)) (λ e. inr (sym (as-told .number-is) ∙ e)) (x .0), sym (as-told .place-is) ∙ x .1),
     )
 
     -- ---- of the class table and its answer
 
     has : PassedAll (lentJob table (listOf bytes job) class work)
-    has = ready lent-passes
+    has = ready called-passes
 
     module _ (z : a ≡ 0) where
       class-table : ClassTable (graphOf table) (pairsOf (listOf bytes job)) (h .classes)
@@ -197,22 +197,22 @@ module _ {bytes : List ℕ} {job : ℕ} {room : List ℕ} (passes : HostPasses b
       of-all P = subst P all-classes
 
       pub host-answer-makes-equal : Unifies (graphOf table) (pairsOf (listOf bytes job)) (answer (graphOf table) (h .classes))
-      host-answer-makes-equal = of-all (λ l. Unifies (graphOf table) (pairsOf (listOf bytes job)) (answer (graphOf table) l)) (answer-makes-equal as-match lent-passes (accepted z))
+      host-answer-makes-equal = of-all (λ l. Unifies (graphOf table) (pairsOf (listOf bytes job)) (answer (graphOf table) l)) (answer-makes-equal as-match called-passes (accepted z))
 
       pub host-answer-well-counted : (x : ℕ) → WellCounted (answer (graphOf table) (h .classes) x)
       host-answer-well-counted = answer-counted (has .passed .well-formed) (h .classes)
 
       pub host-answer-rule : FollowsRule (graphOf table) (pairsOf (listOf bytes job)) (h .classes) (answer (graphOf table) (h .classes))
-      host-answer-rule = of-all (λ l. FollowsRule (graphOf table) (pairsOf (listOf bytes job)) l (answer (graphOf table) l)) (answer-rule as-match lent-passes (accepted z))
+      host-answer-rule = of-all (λ l. FollowsRule (graphOf table) (pairsOf (listOf bytes job)) l (answer (graphOf table) l)) (answer-rule as-match called-passes (accepted z))
 
       pub host-answer-rule-only : (σ : Replacement TableSymbols) → FollowsRule (graphOf table) (pairsOf (listOf bytes job)) (h .classes) σ
           → (x : ℕ) → graphOf table .head x ≡ variable → σ x ≡ answer (graphOf table) (h .classes) x
       host-answer-rule-only σ follows x v =
           of-all (λ l. FollowsRule (graphOf table) (pairsOf (listOf bytes job)) l σ → σ x ≡ answer (graphOf table) l x)
-          (λ f. answer-rule-only as-match lent-passes (accepted z) σ f x v)
+          (λ f. answer-rule-only as-match called-passes (accepted z) σ f x v)
           follows
 
       pub host-answer-most-general : (θ : Replacement TableSymbols) → Unifies (graphOf table) (pairsOf (listOf bytes job)) θ
           → (x : ℕ) → graphOf table .head x ≡ variable → (answer (graphOf table) (h .classes) then θ) x ≡ θ x
       host-answer-most-general θ unifies x v =
-          of-all (λ l. (answer (graphOf table) l then θ) x ≡ θ x) (answer-most-general-of-list as-match lent-passes (accepted z) θ unifies x v)
+          of-all (λ l. (answer (graphOf table) l then θ) x ≡ θ x) (answer-most-general-of-list as-match called-passes (accepted z) θ unifies x v)

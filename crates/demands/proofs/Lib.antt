@@ -7,5 +7,6 @@ pub mod OldContents
 pub mod Packing
 pub mod Entries
 pub mod HostMatch
+pub mod Labels
 pub mod ThereAndBack
 pub mod TwoJobs

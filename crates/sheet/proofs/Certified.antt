@@ -9,7 +9,7 @@ use Prim.Native.Nat.{ℕ, _+_}
 use lib.Dec.{eqb, leb, ltb}
 use lib.ListN.{length, take, drop}
 use Rattle.words.specs.Limits.{mostWords, mostEntries}
-use Rattle.words.specs.Word.{sameKind}
+use Rattle.words.specs.Word.{unnamed, sameKind}
 use Rattle.words.specs.declared.kind.Kind.{Kind}
 use Rattle.graphs.specs.Graph.{Symbols, Graph}
 use Rattle.graphs.specs.Partition.{Pair, pairsOf, joins}
@@ -25,8 +25,11 @@ unfoldable pub isNone : Option ℕ → Bool
 isNone none = true
 isNone (some a) = false
 
+unfoldable pub hasName : List ℕ → ℕ → Bool
+hasName t a = sameKind (kindAt t a) Kind.Variable and not (eqb (contentAt t a) unnamed)
+
 unfoldable pub repeatsAt : List ℕ → ℕ → ℕ → Bool
-repeatsAt t a b = sameKind (kindAt t a) Kind.Variable and sameKind (kindAt t b) Kind.Variable and eqb (contentAt t b) (contentAt t a)
+repeatsAt t a b = hasName t a and sameKind (kindAt t b) Kind.Variable and eqb (contentAt t b) (contentAt t a)
 
 -- the rows 1 and 3 to 6 do not apply to the table
 unfoldable pub goodTable : List ℕ → Bool

@@ -8,11 +8,11 @@ use mathlib.Core.List.{List, [], _∷_, _++_, List·Memᴰ, List·Memᴰ·head, 
 use mathlib.Core.Option.{Option, none, some}
 use Prim.Native.Nat.{ℕ, _+_, _*_, _≤_, _<_}
 use native.Mathlib.Omega.{arith}
-use borrow.Author.Tests.{eq-eqb, eqb-true, leb-true, ltb-true, not-true}
+use borrow.Author.Tests.{eq-eqb, ne-eqb, eqb-true, leb-true, ltb-true, not-true}
 use lib.Dec.{eqb}
 use lib.ListN.{length, take, drop}
 use Rattle.words.specs.Limits.{mostWords, mostEntries}
-use Rattle.words.specs.Word.{sameKind}
+use Rattle.words.specs.Word.{unnamed, sameKind}
 use Rattle.words.specs.declared.kind.Kind.{Kind}
 use Rattle.answering.specs.Answers.{Answered, NoneOf}
 use Rattle.answering.proofs.Orders.{none-first, none-both}
@@ -24,7 +24,7 @@ use Rattle.graphs.proofs.Replay.{both-true, all-below}
 use Rattle.graphs.proofs.Theorems.{log-class-table, log-no-clash, log-no-cycle, log-clash, log-cycle, ranks-no-loop, ways-loop}
 use Rattle.table.specs.Table.{kindAt, contentAt, nodeKind, graphOf}
 use Rattle.table.specs.Layout.{item, breakFrom}
-use Rattle.table.specs.Faults.{Job, badWord, badPointer, Repeats, odd, badSides, pairAt, Row, SIZE, ROOM, NAME, LOOP, LIST, ADDRESS, number, Fault, size-fault, room-fault, name-fault, loop-fault, list-fault, address-fault, sizeRows, shapeRows, listRows, pairRows, matchOrder}
+use Rattle.table.specs.Faults.{Job, badWord, badPointer, NamedVariable, Repeats, odd, badSides, pairAt, Row, SIZE, ROOM, NAME, LOOP, LIST, ADDRESS, number, Fault, size-fault, room-fault, name-fault, loop-fault, list-fault, address-fault, sizeRows, shapeRows, listRows, pairRows, matchOrder}
 use Rattle.table.specs.Readable.{Readable}
 use Rattle.table.proofs.Children.{node-kind}
 use Rattle.table.proofs.Readable.{inside-kind}
@@ -32,7 +32,7 @@ use Rattle.checker.proofs.Stages.{readable-none}
 use Rattle.matcher.specs.Match.{Passes}
 use Rattle.matcher.proofs.Verdicts.{ready, list-so-far, accepted-answered, clash-answered, cycle-answered}
 use Rattle.sheet.specs.Sheet.{Example, jobWith, RowHolds}
-use Rattle.sheet.proofs.Certified.{isNone, repeatsAt, goodTable, goodList, RowSettled, Certificate, loop, settles, clash, cycle, endsIn, settled, sameRow, answers, nothingMade, graphIn, pairsIn, makes, settledBefore, passes, allPass}
+use Rattle.sheet.proofs.Certified.{isNone, hasName, repeatsAt, goodTable, goodList, RowSettled, Certificate, loop, settles, clash, cycle, endsIn, settled, sameRow, answers, nothingMade, graphIn, pairsIn, makes, settledBefore, passes, allPass}
 
 -- ---- tests and what they show
 
@@ -66,10 +66,16 @@ record Sent (t : List ℕ) : Type 0 where
   pub readable : Readable t
   pub names : (a : ℕ) → Repeats t a → ⊥
 
+name-shown : (t : List ℕ) (a : ℕ) → NamedVariable t a → hasName t a ≡ true
+unfolding hasName _and_
+name-shown t a n =
+    ap (λ (k : Kind). sameKind k Kind.Variable and not (eqb (contentAt t a) unnamed)) (n .variable-here)
+    ∙ ap not (ne-eqb (contentAt t a) unnamed (n .other-label))
+
 repeats-shown : (t : List ℕ) (a : ℕ) (r : Repeats t a) → repeatsAt t a (r .earlier) ≡ true
 unfolding repeatsAt _and_
 repeats-shown t a r =
-    ap (λ (k : Kind). sameKind k Kind.Variable and sameKind (kindAt t (r .earlier)) Kind.Variable and eqb (contentAt t (r .earlier)) (contentAt t a)) (r .later)
+    ap (λ (b : Bool). b and sameKind (kindAt t (r .earlier)) Kind.Variable and eqb (contentAt t (r .earlier)) (contentAt t a)) (name-shown t a (r .later))
     ∙ ap (λ (k : Kind). sameKind k Kind.Variable and eqb (contentAt t (r .earlier)) (contentAt t a)) (r .variable-there)
     ∙ eq-eqb (contentAt t (r .earlier)) (contentAt t a) (r .same-label)
 
@@ -93,7 +99,7 @@ good-sent t e =
       names = λ a r.
           fails
           (all-below (λ b. not (repeatsAt t a b)) a
-          (all-below (λ b. allBelow (λ c. not (repeatsAt t b c)) b) (length t) names a (inside-kind t a nodeKind refl (ap nodeKind (r .later))))
+          (all-below (λ b. allBelow (λ c. not (repeatsAt t b c)) b) (length t) names a (inside-kind t a nodeKind refl (ap nodeKind (r .later .variable-here))))
           (r .earlier) (r .before))
           (repeats-shown t a r);
     }

@@ -1,14 +1,15 @@
 -- The sheet holds: every row of it says what the definitions give (`sheet-holds`), and so what every match gives that meets the
--- contract (`sheet-matched`).
+-- contract (`sheet-matched`); and its rows by their places (`is-row`).
 --
 -- One computed test of the whole list (`tested`), by a certificate for each row, and one law that turns it into the statement at
 -- each row (`all-pass-hold`). Assumes nothing.
 use mathlib.Core.Path.{_≡_, refl, sym, ap, _∙_}
 use mathlib.Core.Bool.{true, decide}
-use mathlib.Core.List.{List, [], _∷_, List·Memᴰ}
-use Prim.Native.Nat.{ℕ, _*_, _≤_}
+use mathlib.Core.List.{List, [], _∷_, List·Memᴰ, List·Memᴰ·head, List·Memᴰ·tail}
+use Prim.Native.Nat.{ℕ, zero, suc, _*_, _≤_, _<_}
 use native.Mathlib.Decide.{ℕ-discrete}
-use lib.ListN.{length, take, drop}
+use native.Mathlib.Omega.{arith}
+use lib.ListN.{length, getD, take, drop}
 use lib.Seq.{take-at}
 use Rattle.words.specs.Word.{kindOf}
 use Rattle.answering.proofs.Orders.{answered-only}
@@ -22,9 +23,9 @@ use Rattle.table.proofs.OneAnswer.{fault-once}
 use Rattle.matcher.specs.declared.answer.Matched.{Matched}
 use Rattle.matcher.specs.Match.{numberOf, placeOf, joinsOf, AcceptedWith, jobOf, MatchOf}
 use Rattle.matcher.proofs.OneMatch.{refused-joins}
-use Rattle.sheet.specs.Sheet.{Example, examples, RowHolds}
+use Rattle.sheet.specs.Sheet.{Example, refused, examples, RowHolds}
 use Rattle.sheet.specs.Matcher.{Gives}
-use Rattle.sheet.proofs.Certified.{isNone, repeatsAt, goodTable, goodList, RowSettled, Certificate, loop, settles, clash, cycle, endsIn, settled, sameRow, answers, nothingMade, makes, settledBefore, passes, allPass}
+use Rattle.sheet.proofs.Certified.{isNone, hasName, repeatsAt, goodTable, goodList, RowSettled, Certificate, loop, settles, clash, cycle, endsIn, settled, sameRow, answers, nothingMade, makes, settledBefore, passes, allPass}
 use Rattle.sheet.proofs.Laws.{all-pass-hold}
 
 -- ---- certificates
@@ -56,17 +57,30 @@ certificates =
     ∷ clash 0 (with-ranks (0 ∷ 1 ∷ 0 ∷ 0 ∷ 1 ∷ []) []) (by-pair 1 1 4 ∷ []) 1 4
     ∷ loop (down 1 1 ∷ [])
     ∷ settles (with-ranks (0 ∷ 2 ∷ 0 ∷ 0 ∷ 0 ∷ 0 ∷ 0 ∷ 0 ∷ 0 ∷ 0 ∷ 0 ∷ 0 ∷ 0 ∷ 1 ∷ []) (by-pair 1 1 7 ∷ by-place 1 7 1 3 9 ∷ by-place 1 7 2 4 13 ∷ by-place 1 7 3 5 11 ∷ by-place 1 7 4 3 11 ∷ []))
+    ∷ settles (with-ranks [] (by-pair 1 1 3 ∷ by-pair 2 2 4 ∷ []))
     ∷ []
 
 -- ---- the sheet
 
 tested : allPass examples certificates ≡ true
-unfolding certificates by-pair by-place down with-ranks decide ℕ-discrete kindOf isNode bit count nodes classes joins _and_ _or_ childrenBeside childrenOf grounded isTrue keyOf key renamed merged apartFrom apart ifTrue replayFrom replay allBelow holdsPairs sameNames agreesWith agrees closed ranksFall ranksFallAt ranked differFrom differ clashes isAmong isBelow leads cycles leadsDown loops choose symbol-decide named namedFrom headOf canStand after atEnd breakFrom badKind badWord badTarget pairsOf odd isNone repeatsAt goodTable goodList endsIn settled sameRow answers nothingMade makes settledBefore passes allPass
+unfolding certificates by-pair by-place down with-ranks decide ℕ-discrete kindOf isNode bit count nodes classes joins _and_ _or_ childrenBeside childrenOf grounded isTrue keyOf key renamed merged apartFrom apart ifTrue replayFrom replay allBelow holdsPairs sameNames agreesWith agrees closed ranksFall ranksFallAt ranked differFrom differ clashes isAmong isBelow leads cycles leadsDown loops choose symbol-decide named namedFrom headOf canStand after atEnd breakFrom badKind badWord badTarget pairsOf odd isNone hasName repeatsAt goodTable goodList endsIn settled sameRow answers nothingMade makes settledBefore passes allPass
 tested = refl
 
 -- Each row of the sheet says what the definitions give.
 pub sheet-holds : (e : Example) → List·Memᴰ e examples → RowHolds e
 sheet-holds = all-pass-hold examples certificates tested
+
+-- the row at a place, from 0, and that it is one
+abbrev pub rowAt : ℕ → Example
+rowAt k = getD examples k (refused [] [] 0 0)
+
+there : (es : List Example) (k : ℕ) (d : Example) → k < length es → List·Memᴰ (getD es k d) es
+there [] k d h = absurd (omega arith)
+there (e ∷ es) zero d h = List·Memᴰ·head refl
+there (e ∷ es) (suc k) d h = List·Memᴰ·tail (there es k d (omega arith))
+
+pub is-row : (k : ℕ) → k < 12 → List·Memᴰ (rowAt k) examples
+is-row k h = there examples k (refused [] [] 0 0) h
 
 -- ---- what a match gives
 

@@ -7,7 +7,7 @@
 use mathlib.Core.Path.{_≡_, refl, sym, ap, _∙_, subst}
 use mathlib.Core.Bool.{Bool, true}
 use mathlib.Core.List.{List, [], _∷_, _++_, List·Memᴰ, List·Memᴰ·head, List·Memᴰ·tail}
-use Prim.Native.Nat.{ℕ, zero, suc, _*_, _≤_, _<_}
+use Prim.Native.Nat.{ℕ, _*_, _≤_, _<_}
 use native.Mathlib.Omega.{arith}
 use borrow.Author.Tests.{ltb-true}
 use lib.Dec.{ltb}
@@ -31,9 +31,9 @@ use Rattle.matcher.specs.declared.answer.Matched.{Matched}
 use Rattle.matcher.specs.Match.{numberOf, placeOf, joinsOf, jobOf, Passes}
 use Rattle.matcher.specs.Demands.{Met}
 use Rattle.matcher.proofs.Demands.{accepted-exactly, answer-makes-equal}
-use Rattle.sheet.specs.Sheet.{Example, refused, exampleC, examples}
+use Rattle.sheet.specs.Sheet.{Example, exampleC, examples}
 use Rattle.sheet.specs.Matcher.{Matcher, Below, Lendable, MeetsContract, Gives}
-use Rattle.sheet.proofs.Theorems.{sheet-holds, sheet-matched}
+use Rattle.sheet.proofs.Theorems.{sheet-holds, rowAt, is-row, sheet-matched}
 
 -- ---- what a matcher gives at a row of the sheet
 
@@ -85,18 +85,6 @@ at-row m meets e row =
 
 entry-at : {e : Example} {r : Matched} {class-after : List ℕ} → Gives e r class-after → e .answer ≡ 0 → (x : ℕ) → x < length (e .table) → getD class-after x 0 ≡ getD (e .entries) x 0
 entry-at {e} {r} {class-after} g z x h = sym (getD-take (length (e .table)) class-after x 0 h) ∙ ap (λ (row : List ℕ). getD row x 0) (g .the-entries z)
-
--- the row at a place, from 0, and that it is one
-abbrev rowAt : ℕ → Example
-rowAt k = getD examples k (refused [] [] 0 0)
-
-there : (es : List Example) (k : ℕ) (d : Example) → k < length es → List·Memᴰ (getD es k d) es
-there [] k d h = absurd (omega arith)
-there (e ∷ es) zero d h = List·Memᴰ·head refl
-there (e ∷ es) (suc k) d h = List·Memᴰ·tail (there es k d (omega arith))
-
-is-row : (k : ℕ) → k < 11 → List·Memᴰ (rowAt k) examples
-is-row k h = there examples k (refused [] [] 0 0) h
 
 -- the rows that show it
 abbrev p1 : Example

@@ -1,5 +1,5 @@
--- Document 01's "Sheet of examples", P1 to P10, as one list of rows, with example 1 of document 000 behind them; and the one
--- statement that each row makes. The sentences quoted are document 01's. Assumes nothing.
+-- Document 01's "Sheet of examples", P1 to P10, as one list of rows, with example 1 of document 000 and one of unnamed variables
+-- behind them; and the one statement that each row makes. The sentences quoted are document 01's. Assumes nothing.
 use mathlib.Core.Path.{_≡_}
 use mathlib.Core.List.{List, [], _∷_}
 use Prim.Native.Nat.{ℕ, _*_, _≤_}
@@ -61,6 +61,10 @@ figure4b =
     ∷ function 1 ∷ count 4 ∷ constant 3 ∷ pointer 13 ∷ variable 4 ∷ pointer 11
     ∷ function 2 ∷ count 1 ∷ variable 3 ∷ [])
 
+-- Addresses 1 to 4 (n = 5): variable 0, variable 0, constant 1, constant 2.
+abbrev pub twoUnnamed : List ℕ
+twoUnnamed = tableWith (variable 0 ∷ variable 0 ∷ constant 1 ∷ constant 2 ∷ [])
+
 -- ---- rows
 
 -- A row of the sheet: what is sent, and what comes back.
@@ -104,6 +108,8 @@ examples =
     ∷ refused (tableWith (function 1 ∷ count 1 ∷ pointer 1 ∷ [])) [] 7 0
     -- Document 000's example 1, Fig. 4 (b), pair (1,7): class entries 0 1 0 5 13 5 0 1 0 5 0 5 0 13 0 15, joins 5.
     ∷ accepted figure4b (1 ∷ 7 ∷ []) (0 ∷ 1 ∷ 0 ∷ 5 ∷ 13 ∷ 5 ∷ 0 ∷ 1 ∷ 0 ∷ 5 ∷ 0 ∷ 5 ∷ 0 ∷ 13 ∷ 0 ∷ 15 ∷ []) 5
+    -- Document 02, E1: "such words may repeat", and "every one is a different variable": two of label 0, one for each constant.
+    ∷ accepted twoUnnamed (1 ∷ 3 ∷ 2 ∷ 4 ∷ []) (0 ∷ 3 ∷ 4 ∷ 3 ∷ 4 ∷ []) 2
     ∷ []
 
 -- ---- the statement

@@ -1,5 +1,5 @@
--- Document 01's table of numbers, "Numbers returned": the rows 1 to 11, with the words of each beside its constructor.
--- Assumes nothing.
+-- Document 01's table of numbers, "Numbers returned": the rows 1 to 11, with the words of each beside its constructor. Row 6 is
+-- as document 02, E1, amends it. Assumes nothing.
 use mathlib.Core.Path.{_≡_}
 use mathlib.Core.Bool.{Bool, true, false, _&&_, _||_, not}
 use mathlib.Core.Logic.{_⊎_}
@@ -9,7 +9,7 @@ use Prim.Native.Nat.{ℕ, zero, suc, _+_, _*_, _<_}
 use lib.Dec.{eqb, leb, ltb}
 use lib.ListN.{length, getD, take, drop}
 use Rattle.words.specs.Limits.{mostWords, mostEntries, mostArguments}
-use Rattle.words.specs.Word.{sameKind, isOneOf}
+use Rattle.words.specs.Word.{unnamed, sameKind, isOneOf}
 use Rattle.words.specs.declared.kind.Kind.{Kind}
 use Rattle.words.specs.declared.kind.Kind.the-variants.{Variable, Pointer, Count, NoWord}
 use Rattle.answering.specs.Answers.{Lowest}
@@ -48,9 +48,14 @@ badTarget t b = eqb b 0 || (leb (length t) b || isOneOf (Pointer ∷ Count ∷ [
 abbrev pub badPointer : List ℕ → ℕ → Bool
 badPointer t a = sameKind (kindAt t a) Pointer && badTarget t (contentAt t a)
 
--- "a variable's label stood earlier"
+-- a variable with a name: its label is another than that of "the variable that ISO Prolog spells as a bare underscore" (E1)
+pub record NamedVariable (t : List ℕ) (a : ℕ) : Type 0 where
+  pub variable-here : kindAt t a ≡ Variable
+  pub other-label : contentAt t a ≡ unnamed → ⊥
+
+-- "a variable's label stood earlier", which E1 amends: "such words may repeat"; "other labels still may not repeat"
 pub record Repeats (t : List ℕ) (a : ℕ) : Type 0 where
-  pub later : kindAt t a ≡ Variable
+  pub later : NamedVariable t a
   pub earlier : ℕ
   pub before : earlier < a
   pub variable-there : kindAt t earlier ≡ Variable

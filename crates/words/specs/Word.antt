@@ -15,6 +15,10 @@ wordOf tag content = tag * 65536 + content
 abbrev pub contentOf : ℕ → ℕ
 contentOf w = w % 65536
 
+-- Document 02, E1: "label 0 for the variable that ISO Prolog spells as a bare underscore". Such a variable has no name.
+abbrev pub unnamed : ℕ
+unnamed = 0
+
 -- the five bits of the tag
 abbrev pub tagOf : ℕ → ℕ
 tagOf w = w / 65536 % 32

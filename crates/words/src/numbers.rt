@@ -4,8 +4,12 @@
 // A place in the table, from 0.
 pub struct Address(pub u16);
 
-// What tells variables apart, and symbols that have the same argument count.
+// What tells symbols of the same argument count apart, and names a variable. Variables are told apart
+// by their addresses.
 pub struct Label(pub u16);
+
+// The label of every variable that has no name.
+pub const UNNAMED: u16 = 0;
 
 // A place in the list of pairs, from 1.
 pub struct PairNumber(pub u16);

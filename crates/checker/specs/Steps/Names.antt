@@ -6,9 +6,9 @@ use mathlib.Core.List.{List}
 use Prim.Native.Nat.{ℕ, _+_, _*_, _/_, _%_, _≤_, _<_}
 use lib.ListN.{length, getD, drop}
 use Rattle.words.specs.Limits.{mostWords}
-use Rattle.words.specs.declared.kind.Kind.the-variants.{Variable, NoWord}
+use Rattle.words.specs.declared.kind.Kind.the-variants.{NoWord}
 use Rattle.table.specs.Table.{kindAt, contentAt}
-use Rattle.table.specs.Faults.{Repeats}
+use Rattle.table.specs.Faults.{NamedVariable, Repeats}
 
 -- Of the work row, the entries after the first 4n stay; those may be written over.
 pub record RestStays (t entry exit : List ℕ) : Type 0 where
@@ -38,16 +38,16 @@ pub data Reach (next : ℕ → ℕ) : ℕ → ℕ → Type 0 where
   here : {b : ℕ} → Reach next b b
   further : {v b : ℕ} → 0 < v → Reach next (next v) b → Reach next v b
 
--- what stands in a chain: 0, or a variable's address, below a
+-- what stands in a chain: 0, or the address of a variable with a name, below a
 pub record InChain (t : List ℕ) (a x : ℕ) : Type 0 where
   pub below : x < a
-  pub variable-there : 0 < x → kindAt t x ≡ Variable
+  pub named-there : 0 < x → NamedVariable t x
 
--- The variables at the addresses from 1 to below a are in m chains, each in the chain of its label.
+-- The variables with names at the addresses from 1 to below a are in m chains, each in the chain of its label.
 pub record Chains (t : List ℕ) (m a : ℕ) (head next : ℕ → ℕ) : Type 0 where
   pub heads : (h : ℕ) → h < m → InChain t a (head h)
-  pub links : (v : ℕ) → 0 < v → v < a → kindAt t v ≡ Variable → InChain t v (next v)
-  pub all : (b : ℕ) → 0 < b → b < a → kindAt t b ≡ Variable → Reach next (head (startOf (contentAt t b) m)) b
+  pub links : (v : ℕ) → 0 < v → v < a → NamedVariable t v → InChain t v (next v)
+  pub all : (b : ℕ) → 0 < b → b < a → NamedVariable t b → Reach next (head (startOf (contentAt t b) m)) b
 
 -- ---- chains in the work row
 
@@ -57,7 +57,7 @@ headIn work h = getD work h 0
 abbrev pub nextIn : List ℕ → List ℕ → ℕ → ℕ
 nextIn t work b = getD work (3 * length t + b) 0
 
--- The work row has room, and holds the chains of the variables below a. Word 0 is no variable.
+-- The work row has room, and holds the chains of the variables with names below a. Word 0 is no variable.
 pub record Chained (t work : List ℕ) (a : ℕ) : Type 0 where
   pub no-variable : kindAt t 0 ≡ NoWord
   pub small : length t ≤ mostWords

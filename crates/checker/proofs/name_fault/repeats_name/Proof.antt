@@ -32,7 +32,7 @@ returns c = search needs
 
 returns-2 : tie.Need-returns-2
 returns-2 c =
-    let p : tie.Start = search needs in judged-other (p .pre .0) (λ e. told-others (Variable ∷ []) (c .before .kind .result) (c .match .keys2) .0 (c .before .kind .ensures ∙ e))
+    let p : tie.Start = search needs in judged-other (p .pre .0) (λ n. told-others (Variable ∷ []) (c .before .kind .result) (c .match .keys2) .0 (c .before .kind .ensures ∙ n .variable-here))
 
 pub repeats-name-spec : {M : Type 1} → statement M
 repeats-name-spec =
