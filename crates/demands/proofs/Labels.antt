@@ -5,10 +5,10 @@
 -- (`bound-apart`); matches of tables that differ in the labels of variables alone
 -- (`match-relabelled`, `lent-relabelled`, `host-relabelled`). Assumes nothing.
 use mathlib.Core.Path.{_≡_, refl, sym, ap, _∙_, subst}
-use mathlib.Core.Bool.{Bool, true, not}
+use mathlib.Core.Bool.{Bool, true, false, not, _||_}
 use mathlib.Core.Logic.{_⊎_, inl, inr, _↔_}
 use mathlib.Core.List.{List, [], _∷_, _++_, map}
-use Prim.Native.Nat.{ℕ, suc, _*_, _≤_}
+use Prim.Native.Nat.{ℕ, suc, _*_, _≤_, _<_}
 use native.Mathlib.Omega.{arith}
 use borrow.Author.Tests.{eq-eqb, leb-true}
 use lib.Dec.{eqb, leb}
@@ -21,7 +21,7 @@ use Rattle.graphs.specs.Graph.{Graph}
 use Rattle.graphs.specs.Partition.{pairsOf, ClassTable, joins}
 use Rattle.graphs.proofs.Classes.{never}
 use Rattle.table.specs.Table.{TableSymbols, graphOf}
-use Rattle.table.specs.Faults.{Job, Repeats, FirstClash, FirstCycle, Row, NAME, LOOP, number, Fault, size-fault, room-fault, word-fault, layout-fault, pointer-fault, name-fault, loop-fault, list-fault, address-fault, clash-fault, cycle-fault, sizeRows, shapeRows, tableRows, checkOrder, listRows, pairRows, matchOrder}
+use Rattle.table.specs.Faults.{Job, Repeats, FirstClash, FirstCycle, Row, NAME, LOOP, number, Fault, size-fault, room-fault, word-fault, layout-fault, pointer-fault, name-fault, loop-fault, list-fault, address-fault, clash-fault, cycle-fault, sizeRows, shapeRows, tableRows, checkOrder, listRows, pairRows}
 use Rattle.table.specs.Relabelled.{Relabelled}
 use Rattle.table.proofs.Relabelled.{relabelled-graph}
 use Rattle.matcher.specs.declared.answer.Matched.{Matched}
@@ -31,14 +31,14 @@ use Rattle.matcher.proofs.Verdicts.{ready, behind-nine}
 use Rattle.jobfile.specs.Faults.{fileNumber}
 use Rattle.jobfile.specs.Jobs.{wordsOf, tableOf, listOf}
 use Rattle.host.specs.AsOne.{asOne}
-use Rattle.host.specs.Host.{calledJob, of-match, hostNumber, HostFault, earlyOrder, lateOrder, hostOrder, HostOf}
+use Rattle.host.specs.Host.{calledJob, HostRow, of-match, hostNumber, HostFault, match-fault, earlyOrder, lateOrder, hostOrder, HostOf}
 use Rattle.host.proofs.ChoiceLaws.{to-match}
 use Rattle.station.specs.Entries.{LentOf}
 use Rattle.sheet.specs.Sheet.{twoUnnamed}
 use Rattle.sheet.proofs.Theorems.{rowAt, is-row, sheet-matched}
 use Rattle.demands.specs.HostPasses.{HostPasses}
 use Rattle.demands.specs.NamesBefore.{StoodEarlier, OnlyUnnamedRepeat, UnnamedOnce}
-use Rattle.demands.proofs.HostMatch.{accepted-host-passes, passes-match, long, as-told, as-match, called-passes}
+use Rattle.demands.proofs.HostMatch.{long, as-told, as-match, called-passes}
 
 -- ---- row 6
 
@@ -120,11 +120,30 @@ host-six-repeats {bytes} {room} {job} {a} {p} x e = go (answered-parts hostNumbe
         never (cc)
     go (inr (none, y)) = six-repeats (calledJob bytes job) (tableRows ++ listRows ++ pairRows) a p (to-match bytes job room (tableRows ++ listRows ++ pairRows) a p refl y) e
 
--- what is accepted repeats no name
-pub host-repeated-refused : {bytes room after : List ℕ} {job r : ℕ} → HostOf bytes job room r after → {a : ℕ} → Repeats (tableOf bytes job) a → r ≡ 0 → ⊥
-host-repeated-refused {bytes} {job = job} h {a} again z =
-    let rows = none-parts (Fault (calledJob bytes job)) (sizeRows ++ shapeRows) (NAME ∷ LOOP ∷ listRows) (passes-match (accepted-host-passes h z)) in
-    none-at-all (λ b l. rows .1 .0 b (name-fault l)) (suc a) a (omega arith) again
+-- what repeats is refused, for its name or by a row that stands before that one
+pub host-repeated-refused : {bytes room after : List ℕ} {job r : ℕ} → HostOf bytes job room r after → {a : ℕ} → Repeats (tableOf bytes job) a → (1 ≤ r) × (6 < r → 12 ≤ r)
+unfolding hostNumber fileNumber number
+host-repeated-refused {bytes} {room} {job = job} {r} h {a} again =
+    go (answered-parts hostNumber (HostFault bytes job room) early (map of-match (LOOP ∷ listRows ++ pairRows)) r (h .place) refl (h .answered))
+  where
+    early : List HostRow
+    early = earlyOrder ++ map of-match (shapeRows ++ (NAME ∷ []))
+
+    -- the numbers of these rows
+    known : ℕ → Bool
+    known n = leb n 6 || leb 12 n
+
+    known-says : (b : Bool) → leb r 6 ≡ b → (b || leb 12 r) ≡ true → 6 < r → 12 ≤ r
+    known-says true e t h = absurd (omega (arith, leb-true r 6 e))
+    known-says false e t h = leb-true 12 r t
+
+    go : ((r ≡ 0 → ⊥) × Answered hostNumber (HostFault bytes job room) early r (h .place)) ⊎ (NoneOf (HostFault bytes job room) early × Answered hostNumber (HostFault bytes job room) (map of-match (LOOP ∷ listRows ++ pairRows)) r (h .place))
+        → (1 ≤ r) × (6 < r → 12 ≤ r)
+    go (inl (refused, y)) =
+        (omega (arith, refused), known-says (leb r 6) refl (answered-tested hostNumber (HostFault bytes job room) known early r (h .place) refl (λ z. ap known z) y))
+    go (inr (none, y)) =
+        let name = none-parts (HostFault bytes job room) (earlyOrder ++ map of-match shapeRows) (of-match NAME ∷ []) none .1 .0 in
+        absurd (none-at-all (λ b l. name b (match-fault (name-fault l))) (suc a) a (omega arith) again)
 
 -- ---- one example
 

@@ -2,7 +2,7 @@
 use mathlib.Core.Path.{_≡_}
 use mathlib.Core.Logic.{_↔_}
 use mathlib.Core.List.{List, [], _∷_, _++_}
-use Prim.Native.Nat.{ℕ, _≤_}
+use Prim.Native.Nat.{ℕ, _≤_, _<_}
 use lib.ListN.{length, take}
 use Rattle.answering.specs.Answers.{Lowest}
 use Rattle.table.specs.Faults.{NamedVariable, Repeats, LOOP, checkOrder, listRows, pairRows, matchOrder}
@@ -75,8 +75,8 @@ host-call-ignores-labels = host-relabelled
 
 -- ==== "other labels still may not repeat."
 --
--- A variable whose label, not 0, stood earlier is refused: for the lowest such name, or for what is wrong by a lower number. (The host
--- call's own rows stand before these; its theorem is of a call that comes to them.)
+-- A table with a variable whose label, not 0, stood earlier is refused: for the lowest such name, or by a row that stands before that
+-- one. In the host call 12 to 15 stand before it too.
 
 pub check-refuses-repeated : {t class work : List ℕ} {r : Checked} {class-after work-after : List ℕ} → CheckOf t class work r class-after work-after
     → {a : ℕ} → Repeats t a → (1 ≤ checkNumber r) × (checkNumber r ≤ 6)
@@ -94,7 +94,7 @@ pub lent-refuses-repeated : {t list class work : List ℕ} {r : ℕ} {class-afte
     → {a : ℕ} → Repeats t a → (1 ≤ answerIn r) × (answerIn r ≤ 6)
 lent-refuses-repeated {t} {list} {class} {work} m again = repeated-refused (jobOf t list class work) again (LOOP ∷ listRows ++ pairRows) _ _ (lent-answered m)
 
-pub host-call-refuses-repeated : {bytes room after : List ℕ} {job r : ℕ} → HostOf bytes job room r after → {a : ℕ} → Repeats (tableOf bytes job) a → r ≡ 0 → ⊥
+pub host-call-refuses-repeated : {bytes room after : List ℕ} {job r : ℕ} → HostOf bytes job room r after → {a : ℕ} → Repeats (tableOf bytes job) a → (1 ≤ r) × (6 < r → 12 ≤ r)
 host-call-refuses-repeated = host-repeated-refused
 
 -- ==== "Refusals: 6 is no longer given for label 0."
