@@ -1,4 +1,4 @@
-//! Words and numbers as document 01 writes them, for tests to build tables from.
+//! Words and numbers as document 01 writes them, and document 02, E1, for tests to build tables from.
 
 pub const ACCEPTED: u16 = 0;
 pub const SIZE: u16 = 1;
@@ -32,6 +32,9 @@ pub fn variable(label: u16) -> u32 {
     word(0b10000, label)
 }
 
+/// Document 02, E1: the variable that ISO Prolog spells as a bare underscore. Every one is a different variable.
+pub const UNNAMED: u32 = 0b10000 << 16;
+
 pub fn constant(label: u16) -> u32 {
     word(0b10010, label)
 }
@@ -46,4 +49,17 @@ pub fn pointer(address: u16) -> u32 {
 
 pub fn argument_count(count: u16) -> u32 {
     word(0b11000, count)
+}
+
+/// The block of a function of label 1 with these arguments.
+pub fn block_of(arguments: &[u32]) -> Vec<u32> {
+    let mut items = vec![function(1), argument_count(arguments.len() as u16)];
+    items.extend(arguments);
+    items
+}
+
+/// A table of variables with these labels.
+pub fn variables(labels: &[u16]) -> Vec<u32> {
+    let items: Vec<u32> = labels.iter().map(|&label| variable(label)).collect();
+    words(&items)
 }

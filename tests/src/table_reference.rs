@@ -1,4 +1,5 @@
-//! The table of document 01, read word by word as the document says it and with no care for speed.
+//! The table of document 01, read word by word as the document says it and with no care for speed; names as
+//! document 02, E1, amends them.
 
 use crate::table::{LAYOUT, LOOP, MOST_WORDS, NAME, POINTER, SIZE, WORD};
 
@@ -55,8 +56,11 @@ impl Graph {
         if let Some(a) = (1..n).find(to_no_node) {
             return Err((POINTER, a));
         }
-        let repeats = |a: &usize| {
-            graph.is_variable(*a) && graph.words[1..*a].iter().any(|w| *w == graph.words[*a])
+        // Document 02, E1: "6 is no longer given for label 0."
+        let repeats = |a: &usize| match graph.words[*a] {
+            Some(Word::Variable(0)) => false,
+            Some(Word::Variable(_)) => graph.words[1..*a].iter().any(|w| *w == graph.words[*a]),
+            _ => false,
         };
         if let Some(a) = (1..n).find(repeats) {
             return Err((NAME, a));

@@ -12,7 +12,7 @@ use station_tests::matching::constants;
 use station_tests::programs::{built_with_station, printed_for, valgrind};
 use station_tests::random::Numbers;
 use station_tests::requests::{put, put_row};
-use station_tests::table::MOST_WORDS;
+use station_tests::table::{variables, MOST_WORDS};
 use std::fmt::Display;
 use std::process::Command;
 
@@ -130,6 +130,11 @@ fn talk() -> Talk {
         }
     }
     talk.job(&(vec![], vec![]));
+    // document 02, E1: unnamed variables, and another label that repeats between them
+    talk.job(&(variables(&[0, 5, 0, 7, 0]), vec![3, 1, 5, 4]));
+    talk.job(&(variables(&[0, 5, 0, 5, 0]), vec![3, 1]));
+    // a pair too many
+    talk.job(&(constants(3), [1, 2].repeat(257)));
     for n in [MOST_WORDS, MOST_WORDS + 1] {
         talk.lent(&(constants(n), [1, 2].repeat(256)), n, 4 * n);
         talk.check(&constants(n), n, 4 * n);

@@ -12,7 +12,8 @@ use station_tests::large_stack::{ended, on_a_large_stack};
 use station_tests::matching::{accepted, example_a, example_b, example_c, refused, Given};
 use station_tests::programs::listing;
 use station_tests::table::{
-    argument_count, constant, function, pointer, variable, words, ADDRESS, CLASH, CYCLE, LOOP,
+    argument_count, block_of, constant, function, pointer, variable, variables, words, ADDRESS,
+    CLASH, CYCLE, LOOP, NAME, UNNAMED,
 };
 use std::{env, thread, time};
 
@@ -57,6 +58,7 @@ fn an_independent_unifier_on_many_random_jobs() {
     println!("{} s on {threads} threads", began.elapsed().as_secs());
     seen.print();
     seen.assert_every_answer();
+    seen.unnamed.assert_all();
 }
 
 /// The listing program is started anew for each file, so these are fewer.
@@ -111,6 +113,26 @@ fn the_unifier_knows_the_sheet() {
     let p10 = words(&[function(1), argument_count(1), pointer(1)]);
     assert_eq!(wanted(&p10, &[]), refused(LOOP, 0));
     assert_eq!(wanted(&[0], &[]), accepted(&[0], 0));
+}
+
+/// Document 02, E1.
+#[test]
+fn the_unifier_tells_unnamed_variables_apart() {
+    let known = block_of(&[constant(1), constant(2)]);
+    let apart = words(&[block_of(&[UNNAMED, UNNAMED]), known.clone()].concat());
+    let classes = [0, 1, 0, 7, 8, 1, 0, 7, 8];
+    assert_eq!(wanted(&apart, &[1, 5]), accepted(&classes, 3));
+    let shared = words(&[block_of(&[UNNAMED, pointer(3)]), known].concat());
+    assert_eq!(wanted(&shared, &[1, 5]), refused(CLASH, 1));
+    assert_eq!(wanted(&apart, &[3, 1]), refused(CYCLE, 1));
+    // other labels still may not repeat
+    let two = variables(&[0, 0]);
+    assert_eq!(wanted(&two, &[]), accepted(&[0, 1, 2], 0));
+    assert_eq!(wanted(&two, &[2, 1]), accepted(&[0, 1, 1], 1));
+    for label in [1, 5, 65_535] {
+        let table = variables(&[0, label, 0, label, 0, label]);
+        assert_eq!(wanted(&table, &[]), refused(NAME, 4));
+    }
 }
 
 /// What is wrong with a class table, against the unifier that the judge finds.

@@ -1,10 +1,11 @@
-//! The matcher against the definitions of document 01, on many small tables and lists.
+//! The matcher against the definitions of document 01, on many small tables and lists; names as document 02,
+//! E1, amends them.
 
 use station_tests::match_reference::reference;
 use station_tests::matching::matched_on;
 use station_tests::random::Numbers;
 use station_tests::table::{
-    argument_count, constant, function, pointer, variable, words, MOST_WORDS,
+    argument_count, constant, function, pointer, variable, words, MOST_WORDS, SIZE,
 };
 
 const SEED: u64 = 0x5741_11a6_91e0_0001;
@@ -17,9 +18,13 @@ fn table(numbers: &mut Numbers) -> Vec<u32> {
     let mut table = words(&[]);
     let mut pointers = Vec::new();
     let mut next_variable = 0;
+    // no unnamed variables, a third, or nothing else
+    let unnamed = [0, 0, 1, 3][numbers.below(4)];
     let mut leaf = |numbers: &mut Numbers| {
         if numbers.one_in(3) {
             constant(numbers.below(6) as u16 / 5)
+        } else if numbers.below(3) < unnamed {
+            variable(0)
         } else {
             next_variable += 1;
             variable(next_variable)
@@ -66,13 +71,14 @@ fn nodes(table: &[u32]) -> Vec<u16> {
     (1..table.len() as u16).filter(is_node).collect()
 }
 
-/// The table with a copy of its items behind them, in which variables have other labels and stand for
-/// some constants; and pairs of nodes with their copies, which can often be joined.
+/// The table with a copy of its items behind them, in which variables have other labels, or none as before,
+/// and stand for some constants; and pairs of nodes with their copies, which can often be joined.
 fn doubled(numbers: &mut Numbers, table: &[u32]) -> (Vec<u32>, Vec<u16>) {
     let shift = table.len() as u16 - 1;
     let mut both = table.to_vec();
     for &word in &table[1..] {
         both.push(match word >> 16 {
+            16 if word == variable(0) => word,
             16 => word + 100,
             18 if numbers.one_in(2) => variable(200 + both.len() as u16),
             20 => word + u32::from(shift),
@@ -95,6 +101,7 @@ fn damage(numbers: &mut Numbers, table: &mut [u32]) {
     let small = numbers.below(n + 2) as u16;
     let kinds = [
         variable(small % 4),
+        variable(1),
         constant(small),
         function(small),
         pointer(small),
@@ -143,6 +150,7 @@ fn the_definitions_on_many_small_jobs() {
     println!("seed {SEED:#x}");
     let mut numbers = Numbers::new(SEED);
     let mut answers = [0_usize; 12];
+    let mut with_unnamed = [0_usize; 12];
     let (mut joined, mut most_joins) = (0, 0);
     for job in 0..JOBS {
         let mut table = table(&mut numbers);
@@ -171,9 +179,16 @@ fn the_definitions_on_many_small_jobs() {
         let given = matched_on(&table, &list, &mut class, &mut work);
         assert_eq!(given, wanted, "job {job}: {table:x?} {list:?}");
         answers[usize::from(given.answer)] += 1;
+        if table.iter().filter(|&&word| word == variable(0)).count() >= 2 {
+            with_unnamed[usize::from(given.answer)] += 1;
+        }
         joined += usize::from(given.joins);
         most_joins = most_joins.max(given.joins);
     }
     println!("answers 0 to 11: {answers:?}; {joined} joins, at most {most_joins}");
+    println!("with two or more unnamed variables: {with_unnamed:?}");
     assert!(answers.iter().all(|&seen| seen > 0));
+    // a table that is refused by its size has no variables here
+    let mut possible = (0..12).filter(|&answer| answer != usize::from(SIZE));
+    assert!(possible.all(|answer| with_unnamed[answer] > 0));
 }

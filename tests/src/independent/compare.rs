@@ -51,7 +51,8 @@ fn on_lent_buffers(numbers: &mut Numbers, job: &Job, seen: &mut Seen) -> Given {
         }
     }
     seen.answer(Entry::Lent, given.answer);
-    seen.job(job.table.len(), job.list.len() / 2, &given, &trees);
+    seen.unnamed.answer(Entry::Lent, &job.table, given.answer);
+    seen.job(&job.table, job.list.len() / 2, &given, &trees);
     given
 }
 
@@ -62,6 +63,7 @@ fn check_alone(numbers: &mut Numbers, job: &Job, seen: &mut Seen) {
     let wanted = check(&job.table, job.class_room, job.work_room);
     assert_eq!((answer, place), (wanted.answer, wanted.place));
     seen.answer(Entry::Check, answer);
+    seen.unnamed.answer(Entry::Check, &job.table, answer);
 }
 
 /// The job in a file among others, which the station writes; then whatever the file may have become.
@@ -90,6 +92,7 @@ fn in_a_file(numbers: &mut Numbers, job: &Job, wanted: &Given, seen: &mut Seen) 
             };
             let report = host::report(&given, n);
             left[..report.len()].copy_from_slice(&report);
+            seen.unnamed.answer(Entry::Match, &table, given.answer);
             given.answer
         }
     };

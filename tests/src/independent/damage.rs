@@ -52,13 +52,30 @@ fn another_content(numbers: &mut Numbers, table: &mut [u32]) {
     }
 }
 
-/// Two variables with one label; a constant or function may have it too, which is no fault.
+/// Two variables with one label; a constant or function may have it too, which is no fault. Nor is it one
+/// where the label is 0 (document 02, E1).
 fn shared_label(numbers: &mut Numbers, table: &mut [u32]) {
     let variables: Vec<usize> = (1..table.len()).filter(|&x| table[x] >> 16 == 16).collect();
-    if !variables.is_empty() {
-        let [from, to] = [0; 2].map(|_| variables[numbers.below(variables.len())]);
-        table[to] = table[from];
+    if variables.len() < 2 {
+        return;
     }
+    let first = numbers.below(variables.len());
+    let second = first + 1 + numbers.below(variables.len() - 1);
+    let [from, to] = [first, second].map(|i| variables[i % variables.len()]);
+    let named = variable([1, 5, 65_535][numbers.below(3)]);
+    match numbers.below(6) {
+        0 => table[from] = variable(0),
+        // The one label that repeats stands among unnamed variables.
+        1 | 2 => {
+            for &x in &variables {
+                table[x] = variable(0);
+            }
+            table[from] = named;
+        }
+        _ if table[from] == variable(0) => table[from] = named,
+        _ => {}
+    }
+    table[to] = table[from];
 }
 
 /// A side, the number of entries, or both.

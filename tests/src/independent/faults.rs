@@ -1,4 +1,5 @@
-//! What is wrong with a table (1 to 7) and with a list (8 and 9), each number by its line of document 01.
+//! What is wrong with a table (1 to 7) and with a list (8 and 9), each number by its line of document 01,
+//! and 6 as document 02, E1, has it.
 
 use super::graph::{read, some_reaches_itself, Graph, Kind};
 use crate::table::{ADDRESS, LAYOUT, LIST, LOOP, NAME, POINTER, ROOM, SIZE, WORD};
@@ -72,8 +73,10 @@ fn bad_pointer(row: &[(Kind, usize)], at: usize) -> bool {
     kind == Kind::Pointer && (named == 0 || named >= row.len() || !row[named].0.is_node())
 }
 
+/// Document 02, E1: "such words may repeat", those of label 0; "other labels still may not repeat".
 fn taken_name(row: &[(Kind, usize)], at: usize) -> bool {
-    row[at].0 == Kind::Variable && row[1..at].contains(&row[at])
+    let (kind, label) = row[at];
+    kind == Kind::Variable && label != 0 && row[1..at].contains(&row[at])
 }
 
 /// What is wrong with a list for a good table.

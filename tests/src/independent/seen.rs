@@ -2,6 +2,7 @@
 
 use super::judge::Trees;
 use super::robinson::Obstacle;
+use super::unnamed::Unnamed;
 use crate::matching::Given;
 use crate::table::{ACCEPTED, CLASH, CYCLE};
 
@@ -55,6 +56,7 @@ pub struct Seen {
     pub joins: usize,
     pub most_joins: usize,
     pub most_words_accepted: usize,
+    pub unnamed: Unnamed,
 }
 
 impl Seen {
@@ -62,8 +64,8 @@ impl Seen {
         self.answers[entry as usize][usize::from(answer)] += 1;
     }
 
-    /// A job, by the number of its words and pairs.
-    pub fn job(&mut self, words: usize, pairs: usize, given: &Given, trees: &Trees) {
+    /// A job, by its table and the number of its pairs.
+    pub fn job(&mut self, table: &[u32], pairs: usize, given: &Given, trees: &Trees) {
         match trees {
             Trees::NotAsked => {}
             Trees::TooLarge => self.too_large_for_trees += 1,
@@ -79,7 +81,8 @@ impl Seen {
         match given.answer {
             ACCEPTED => {
                 self.accepted_with_pairs[range(pairs)] += 1;
-                self.most_words_accepted = self.most_words_accepted.max(words);
+                self.most_words_accepted = self.most_words_accepted.max(table.len());
+                self.unnamed.classes(table, &given.classes);
             }
             CLASH => self.clash_at_pair[place] += 1,
             CYCLE => self.cycle_at_pair[place] += 1,
@@ -110,6 +113,7 @@ impl Seen {
         self.joins += other.joins;
         self.most_joins = self.most_joins.max(other.most_joins);
         self.most_words_accepted = self.most_words_accepted.max(other.most_words_accepted);
+        self.unnamed.add(&other.unnamed);
     }
 
     /// How often each answer came, of all entries together.
@@ -149,6 +153,7 @@ impl Seen {
             "  a clash where the trees met an occurrence first {}",
             self.clash_where_trees_met_an_occurrence_first
         );
+        self.unnamed.print();
     }
 
     /// That each entry gave each of its answers.

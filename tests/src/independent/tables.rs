@@ -1,4 +1,5 @@
-//! Random tables, good but for loops: of mixed items, deep, wide, with shared subterms, and with a copy.
+//! Random tables, good but for loops: of mixed items, deep, wide, with shared subterms, and with a copy. Some
+//! have variables of label 0, which are unnamed (document 02, E1).
 
 use crate::random::Numbers;
 use crate::table::{argument_count, constant, function, pointer, variable, words};
@@ -19,6 +20,13 @@ struct Row {
     /// How many labels there are for constants and functions each: few make agreement likely.
     labels: usize,
     next_variable: u16,
+    /// How many of ten variables are unnamed.
+    unnamed: usize,
+}
+
+/// None in half of the tables; else few, half or all.
+fn unnamed_of_ten(numbers: &mut Numbers) -> usize {
+    [0, 0, 0, 2, 5, 10][numbers.below(6)]
 }
 
 impl Row {
@@ -28,6 +36,7 @@ impl Row {
             pointers: Vec::new(),
             labels: [1, 1, 2, 3, 40][numbers.below(5)],
             next_variable: [0, 0, 60_000][numbers.below(3)],
+            unnamed: unnamed_of_ten(numbers),
         }
     }
 
@@ -39,6 +48,8 @@ impl Row {
     fn leaf(&mut self, numbers: &mut Numbers, constants: usize) {
         let word = if numbers.below(10) < constants {
             constant(self.label(numbers))
+        } else if numbers.below(10) < self.unnamed {
+            variable(0)
         } else {
             self.next_variable += 1;
             variable(self.next_variable)
@@ -195,14 +206,20 @@ pub fn doubling(numbers: &mut Numbers) -> Vec<u32> {
 }
 
 /// The table with a copy of its items behind them: other variables, some in the place of leaves and
-/// pointers. A node and its copy can often be unified.
+/// pointers, and some unnamed, whatever they are copies of. A node and its copy can often be unified.
 pub fn with_copy(numbers: &mut Numbers, table: &[u32]) -> Vec<u32> {
     let shift = table.len() as u32 - 1;
     let looser = 1 + numbers.below(12);
+    let unnamed = unnamed_of_ten(numbers);
     let mut both = table.to_vec();
     for &word in &table[1..] {
         // Below 65,536 for every table that is copied, and no label of the first half.
-        let fresh = variable(20_000 + both.len() as u16);
+        let label = 20_000 + both.len() as u16;
+        let fresh = variable(if numbers.below(10) < unnamed {
+            0
+        } else {
+            label
+        });
         both.push(match word >> 16 {
             16 => fresh,
             18 | 20 if numbers.one_in(looser) => fresh,
