@@ -8,6 +8,7 @@
 use std::fs;
 use std::path::{Path, PathBuf};
 
+pub mod agreeing;
 pub mod checking;
 pub mod every_call;
 pub mod guarded;

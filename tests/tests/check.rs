@@ -175,8 +175,8 @@ fn pointers() {
 fn names() {
     assert_eq!(check(&words(&[variable(1), variable(2)])), (ACCEPTED, 0));
     assert_eq!(check(&words(&[variable(1), variable(1)])), (NAME, 2));
-    // label 0 is a label like any other
-    assert_eq!(check(&words(&[variable(0), variable(0)])), (NAME, 2));
+    // document 02, E1: each variable of label 0 is a different one
+    assert_eq!(check(&words(&[variable(0), variable(0)])), (ACCEPTED, 0));
     assert_eq!(
         check(&words(&[variable(65_535), variable(65_535)])),
         (NAME, 2)
@@ -222,13 +222,14 @@ fn start_of(label: usize, chains: usize) -> usize {
     label * 40_503 % 65_536 * chains / 65_536
 }
 
-/// Labels that agree in the entry where their chain begins, without and with one that repeats.
+/// Labels that agree in the entry where their chain begins, without and with one that repeats. Label 0 is in
+/// no chain (document 02, E1), so unnamed variables between them do not hide it.
 #[test]
 fn names_of_one_chain() {
     for n in [2_usize, 3, 5, 148, 1_000, MOST_WORDS] {
         let chains = 3 * n;
         let (in_chain, others): (Vec<usize>, Vec<usize>) =
-            (0..65_536).partition(|&label| start_of(label, chains) == 0);
+            (1..65_536).partition(|&label| start_of(label, chains) == 0);
         assert!(in_chain.len() <= 65_536 / chains + 1, "n {n}");
         // different labels in other chains up to n words
         let labels = in_chain.iter().chain(&others).take(n - 1);
@@ -239,6 +240,10 @@ fn names_of_one_chain() {
         if last > 1 {
             table[last] = table[1];
             assert_eq!(check(&table), (NAME, last as u16), "n {n}");
+            table[2..last].fill(variable(0));
+            assert_eq!(check(&table), (NAME, last as u16), "n {n}");
+            table[1] = variable(0);
+            assert_eq!(check(&table), (ACCEPTED, 0), "n {n}");
         }
     }
 }

@@ -4,7 +4,7 @@ use station_tests::jobs::{examples, file_of, Job, MOST_BYTES};
 use station_tests::matching::{constants, example_a, example_c};
 use station_tests::programs::{listing, listing_into};
 use station_tests::repository;
-use station_tests::table::{variable, words, MOST_WORDS};
+use station_tests::table::{block_of, constant, variable, variables, words, MOST_WORDS, UNNAMED};
 use std::fs::{File, OpenOptions};
 use std::process::{Command, Stdio};
 
@@ -122,6 +122,42 @@ fn large_labels() {
     let table = words(&[variable(65_535), variable(0), variable(10)]);
     let lines = ["1 0 0 1", "v 1 65535 1", "v 2 0 2", "v 3 10 1"];
     assert_eq!(listing(&file_of(&[(table, vec![3, 1])])), good(&lines));
+}
+
+/// Document 02, E1: each has the label 0, an address of its own, and its own class's name.
+#[test]
+fn unnamed_variables() {
+    let mut table = words(&block_of(&[UNNAMED; 3]));
+    table.extend([constant(0), UNNAMED, variable(5)]);
+    let file = file_of(&[
+        (table.clone(), vec![]),
+        (table.clone(), vec![4, 6, 7, 5, 8, 7]),
+        (table, vec![3, 1]),
+        (variables(&[0, 5, 5]), vec![]),
+    ]);
+    let all_free = [
+        "1 0 0 0", "v 3 0 3", "v 4 0 4", "v 5 0 5", "v 7 0 7", "v 8 5 8",
+    ];
+    // one stays free, one is bound, and two are in one class with a named one
+    let three_ways = [
+        "2 0 0 3", "v 3 0 3", "v 4 0 6", "v 5 0 5", "v 7 0 5", "v 8 5 5",
+    ];
+    let refused = ["3 11 1 0", "4 6 3 0"];
+    let lines = [&all_free[..], &three_ways, &refused].concat();
+    assert_eq!(listing(&file), good(&lines));
+}
+
+#[test]
+fn unnamed_variables_in_every_word() {
+    let items = vec![UNNAMED; MOST_WORDS - 1];
+    let mut lines = vec![String::from("1 0 0 1")];
+    lines.extend((1..MOST_WORDS).map(|x| {
+        let name = if x == 4_095 { 1 } else { x };
+        format!("v {x} 0 {name}")
+    }));
+    let lines: Vec<&str> = lines.iter().map(String::as_str).collect();
+    let file = file_of(&[(words(&items), vec![4_095, 1])]);
+    assert_eq!(listing(&file), good(&lines));
 }
 
 #[test]

@@ -150,11 +150,15 @@ fn refusal_6_name() {
         words(&items)
     };
     assert_eq!(matched(&labels(&[0, 1, 65_535]), &[]).answer, ACCEPTED);
-    assert_eq!(matched(&labels(&[0, 0]), &[]), refused(NAME, 2));
+    assert_eq!(matched(&labels(&[1, 1]), &[]), refused(NAME, 2));
+    // document 02, E1: not for label 0
+    assert_eq!(matched(&labels(&[0, 0]), &[]).answer, ACCEPTED);
     assert_eq!(matched(&labels(&[1, 2, 3, 2, 1]), &[]), refused(NAME, 4));
     let mut many: Vec<u16> = (0..4_095).collect();
     assert_eq!(matched(&labels(&many), &[]).answer, ACCEPTED);
     many[4_094] = 0;
+    assert_eq!(matched(&labels(&many), &[]).answer, ACCEPTED);
+    many[4_094] = 1;
     assert_eq!(matched(&labels(&many), &[]), refused(NAME, 4_095));
     // before the loop, and the list
     let table = words(&[

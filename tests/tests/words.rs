@@ -86,8 +86,9 @@ fn assert_word(word: u32) {
     let block = [0, function(1), argument_count(1), word];
     assert_eq!(checked(&block), as_argument, "argument {word:#010x}");
 
-    // a variable's label stands once, and a constant's as often as it likes
+    // a variable's label stands once, but for 0 (document 02, E1), and a constant's as often as it likes
     let as_label = match kind {
+        Kind::Variable if content == 0 => GOOD,
         Kind::Variable => (NAME, 2),
         Kind::Constant => GOOD,
         _ => return,
@@ -130,13 +131,14 @@ fn met(table: &[u32], left: u16, right: u16) -> u16 {
     station::match_lent(table, &[left, right], &mut class, &mut work).0
 }
 
-/// Each label by itself, and with each of its bits the other way.
+/// Each label by itself, and with each of its bits the other way. Document 02, E1: of variables, 0 is the one
+/// label that two may have.
 #[test]
 fn all_bits_of_a_label_count() {
     for label in 0..=65_535u16 {
         let others = (0..16).map(|bit| label ^ 1 << bit);
         for (other, same) in others.map(|other| (other, false)).chain([(label, true)]) {
-            let by_name = if same { (NAME, 2) } else { GOOD };
+            let by_name = if same && label != 0 { (NAME, 2) } else { GOOD };
             assert_eq!(checked(&[0, variable(label), variable(other)]), by_name);
             let by_symbol = if same { ACCEPTED } else { CLASH };
             let constants = [0, constant(label), constant(other)];

@@ -8,7 +8,7 @@ use crate::jobs::{bodies_of, file_from, in_pairs, sizes_of, Job, MOST_BYTES};
 use crate::large_tables::{chains, row_of_variables, towers, wide_blocks};
 use crate::matching::{constants, list};
 use crate::random::Numbers;
-use crate::table::{constant, variable, words, MOST_PAIRS, MOST_WORDS};
+use crate::table::{constant, variable, variables, words, MOST_PAIRS, MOST_WORDS};
 
 /// Larger tables take long, and are no other than small ones to all but the edges.
 const MOST_RANDOM_WORDS: usize = 1_000;
@@ -92,6 +92,34 @@ fn large(numbers: &mut Numbers, calls: &mut Vec<Call>) {
     exact(numbers, (wide, list(&pairs)), calls);
 }
 
+/// Variables of many different labels, in no order, and the first of them again at the end: a label is
+/// compared with several before it is found to repeat.
+fn names(numbers: &mut Numbers, calls: &mut Vec<Call>) {
+    let mut labels: Vec<u16> = (1..=65_535).collect();
+    for n in [9, 100, 1_000] {
+        numbers.shuffle(&mut labels);
+        let mut table = variables(&labels[..n - 1]);
+        exact(numbers, (table.clone(), vec![]), calls);
+        table[n - 1] = table[1];
+        exact(numbers, (table, vec![]), calls);
+    }
+}
+
+/// Unnamed variables in every word (document 02, E1), and in every word but two that have one label.
+fn unnamed(numbers: &mut Numbers, calls: &mut Vec<Call>) {
+    let (_, pairs) = row_of_variables();
+    for n in [3, 4, 70, MOST_WORDS] {
+        let mut table = words(&vec![variable(0); n - 1]);
+        let joined = &pairs[..MOST_PAIRS.min(n - 2)];
+        exact(numbers, (table.clone(), list(joined)), calls);
+        table[1] = variable(5);
+        table[n - 1] = variable(5);
+        exact(numbers, (table, list(joined)), calls);
+    }
+    let (wide, pairs) = wide_blocks(|_, _| variable(0));
+    exact(numbers, (wide, list(&pairs)), calls);
+}
+
 /// Files of every number of jobs, with bodies of every length that a copy tells apart; and rooms that
 /// stand right behind the bodies.
 fn files(numbers: &mut Numbers, calls: &mut Vec<Call>) {
@@ -127,6 +155,8 @@ pub fn corpus(seed: u64, jobs: u64) -> Vec<Call> {
     sizes(numbers, &mut calls);
     lists(numbers, &mut calls);
     large(numbers, &mut calls);
+    names(numbers, &mut calls);
+    unnamed(numbers, &mut calls);
     files(numbers, &mut calls);
     calls
 }
