@@ -40,14 +40,15 @@ static inline int sound(const uint32_t *table, size_t n, uint16_t *work) {
                     if (bad_pointer(table, n, word))
                         return 0;
                 } else if (tag(word) == VARIABLE) {
-                    if (repeats_name(&names, at))
+                    if (word != STATION_UNNAMED && repeats_name(&names, at))
                         return 0;
                 } else if (tag(word) != CONSTANT)
                     return 0;
             }
         } else if (kind == VARIABLE) {
-            if (repeats_name(&names, at++))
+            if (table[at] != STATION_UNNAMED && repeats_name(&names, at))
                 return 0;
+            at++;
         } else if (kind == CONSTANT)
             at++;
         else
@@ -90,7 +91,7 @@ static struct answer first_fault(const uint32_t *table, size_t n, uint16_t *work
             return refusal(STATION_POINTER, at);
     struct names names = no_names(table, n, work);
     for (at = 1; at < n; at++)
-        if (tag(table[at]) == VARIABLE && repeats_name(&names, (uint32_t)at))
+        if (tag(table[at]) == VARIABLE && table[at] != STATION_UNNAMED && repeats_name(&names, (uint32_t)at))
             break;
     return refusal(STATION_NAME, at);
 }

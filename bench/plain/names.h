@@ -22,11 +22,11 @@ static inline struct names no_names(const uint32_t *table, size_t n, uint16_t *w
     return (struct names){table, (uint32_t)(3 * n), work, work + 3 * n};
 }
 
-/* Whether the variable at an address repeats a name. If not, it is kept. Label 0 is no name. */
+/* Whether the variable at an address repeats a name. If not, it is kept. Callers leave STATION_UNNAMED out: with
+ * that test in here gcc makes slower code.
+ */
 static inline int repeats_name(struct names *names, uint32_t at) {
     uint32_t word = names->table[at];
-    if (content(word) == 0)
-        return 0;
     uint16_t *first = &names->first[(uint16_t)(word * 40503u) * names->starts >> 16];
     for (uint32_t earlier = *first; earlier != 0; earlier = names->next[earlier])
         if (names->table[earlier] == word)

@@ -1,8 +1,9 @@
 -- Ordered rows.
 --
 -- In order: one answer at one place (`answered-only`); a test that every row passes (`each`), and what it says of an answer
--- (`answered-tested`, `passed-none`); the row that an answer is given by (`answered-row`); an order put together from two and taken apart (`refused-first`, `none-first`, `none-parts`,
--- `answered-parts`); rows that apply alike (`answered-alike`); rows carried over to other rows (`carried`). Assumes nothing.
+-- (`answered-tested`, `passed-none`); the row that gives an answer (`answered-row`); an order put together from two and taken apart
+-- (`refused-first`, `none-first`, `none-parts`, `answered-parts`); rows that apply alike (`answered-alike`); rows carried over to
+-- other rows (`carried`). Assumes nothing.
 use mathlib.Core.Path.{_≡_, refl, sym, ap, _∙_}
 use mathlib.Core.Bool.{Bool, true, false, _&&_, true≢false}
 use mathlib.Core.Logic.{_⊎_, inl, inr}

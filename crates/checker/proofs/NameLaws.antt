@@ -2,7 +2,7 @@
 --   repeats-inside   a repeated name stands in the table
 --   put-front      two stores put a variable in front of its chain
 --   stays-same, stays-on     what of the work row stays
---   chained-unnamed, chained-pass   an address that is no variable with a name, or none at all, is passed by
+--   chained-unnamed, chained-pass   an address that has no name, or no variable, is passed by
 --   judged-..      the three ways in which an address is judged
 --   chained-none   a cleared row has empty chains
 --   NoneYet        no address passed repeats a name; none-first, none-more

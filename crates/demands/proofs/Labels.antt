@@ -42,7 +42,7 @@ use Rattle.demands.proofs.HostMatch.{long, as-told, as-match, called-pa
 
 -- ---- row 6
 
--- what repeats a name has a label that stood earlier
+-- the label of what repeats a name stood earlier
 stood : {t : List ℕ} {a : ℕ} → Repeats t a → StoodEarlier t a
 stood r = record { later = r .later .variable-here; earlier = r .earlier; before = r .before; variable-there = r .variable-there; same-label = r .same-label }
 

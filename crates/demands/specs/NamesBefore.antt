@@ -14,10 +14,10 @@ pub record StoodEarlier (t : List ℕ) (a : ℕ) : Type 0 where
   pub variable-there : kindAt t earlier ≡ Variable
   pub same-label : contentAt t earlier ≡ contentAt t a
 
--- Of the variables, those that share a label with an earlier one all have this one; so it is with 0 where "such words may repeat".
+-- Every variable whose label stood earlier has label 0.
 abbrev pub OnlyUnnamedRepeat : List ℕ → Type 0
 OnlyUnnamedRepeat t = (a : ℕ) → StoodEarlier t a → contentAt t a ≡ unnamed
 
--- .. and none of those that share a label has label 0
+-- None has: no two variables have label 0.
 abbrev pub UnnamedOnce : List ℕ → Type 0
 UnnamedOnce t = (a : ℕ) → StoodEarlier t a → contentAt t a ≡ unnamed → ⊥
