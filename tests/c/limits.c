@@ -53,6 +53,15 @@ static void words_and_pairs(void) {
     expect("an argument more", arguments(STATION_MOST_ARGUMENTS + 1), STATION_WORD);
 }
 
+/* As many unnamed variables as a table holds; and two of another label, which is a name. */
+static void names(void) {
+    for (size_t i = 1; i < WORDS; i++)
+        table[i] = STATION_UNNAMED;
+    expect("unnamed variables", lent(WORDS, 0), STATION_ACCEPTED);
+    table[1] = table[2] = STATION_VARIABLE(1);
+    expect("two of one name", lent(3, 0), STATION_NAME);
+}
+
 static void files(void) {
     size_t longest = (BYTES - STATION_FILE_BYTES(1, 0)) / 4;
     expect("most jobs", written(JOBS, 1), STATION_ACCEPTED);
@@ -85,11 +94,13 @@ static void words(void) {
             expect("its content", STATION_CONTENT_OF(made[i]), content);
         }
     }
+    expect("an unnamed variable", STATION_UNNAMED, STATION_VARIABLE(0));
     expect("a high bit", STATION_TAG_OF(STATION_VARIABLE(1) | (uint32_t)1 << 21) == STATION_TAG_VARIABLE, 0);
 }
 
 int main(void) {
     words_and_pairs();
+    names();
     files();
     words();
     printf("%s %d\n", STATION_VERSION, STATION_VERSION_NUMBER);
