@@ -1,10 +1,11 @@
-// Answer 6, NAME: "a variable's label stood earlier", for every label but 0. A variable of label 0 has no
-// name: it is neither put into a chain nor looked for, so any number of them takes no more time than
-// others.
+// Answer 6, NAME: "a variable's label stood earlier", for every label but 0. A variable of label 0 has
+// no name: it is neither put into a chain nor looked for, so any number of them takes no more time
+// than others.
 //
-// The variables with names met so far are kept in chains in the work row, for a table of n words: the first 3n
-// entries begin the chains, each with its newest address, and entry 3n + a has the address that comes
-// after a. Address 0, which is no variable, ends a chain. Links fall, so a walk ends.
+// The variables with names that were met are kept in chains in the work row, for a table of n words:
+// the first 3n entries begin the chains, each with its newest address, and entry 3n + a has the
+// address that comes after a. Address 0, which is no variable, ends a chain. Links fall, so a walk
+// ends.
 //
 // The chain of a label goes by the high bits of the label times an odd number. Such a product is one
 // to one on 16 bits, and labels that agree in their low bits are spread too. A chain has at most
