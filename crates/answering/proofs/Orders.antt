@@ -1,17 +1,17 @@
 -- Ordered rows.
 --
 -- In order: one answer at one place (`answered-only`); a test that every row passes (`each`), and what it says of an answer
--- (`answered-tested`, `passed-none`); the row that gives an answer (`answered-row`); an order put together from two and taken apart
--- (`refused-first`, `none-first`, `none-parts`, `answered-parts`); rows that apply alike (`answered-alike`); rows carried over to
--- other rows (`carried`). Assumes nothing.
+-- (`answered-tested`, `passed-none`); the row that gives a number (`given-by`); an order put together from two and taken apart
+-- (`refused-first`, `none-first`, `none-parts`, `answered-parts`, `first-answers`); rows that apply alike (`answered-alike`); rows
+-- carried over to other rows (`carried`). Assumes nothing.
 use mathlib.Core.Path.{_≡_, refl, sym, ap, _∙_}
-use mathlib.Core.Bool.{Bool, true, false, _&&_, true≢false}
-use mathlib.Core.Logic.{_⊎_, inl, inr}
+use mathlib.Core.Bool.{Bool, true, false, _&&_, not, true≢false}
+use mathlib.Core.Logic.{_⊎_, inl, inr, ⊎-elim}
 use mathlib.Core.List.{List, [], _∷_, _++_, map}
 use Prim.Native.Nat.{ℕ}
 use native.Mathlib.Omega.{arith}
-use borrow.Author.Tests.{ltb-true}
-use lib.Dec.{ltb}
+use borrow.Author.Tests.{eq-eqb, ltb-true}
+use lib.Dec.{eqb, ltb}
 use Rattle.answering.specs.Answers.{Answered, NoneOf}
 
 -- ---- tests
@@ -36,11 +36,8 @@ module _ {Row : Type 0} (test : Row → Bool) (row : Row) (rows : List Row) (t :
   rest-passes : each test rows ≡ true
   rest-passes = both (test row) (each test rows) t .1
 
--- the row that gives a number, at a place
-pub record GivenBy {Row : Type 0} (number : Row → ℕ) (Applies : Row → ℕ → Type 0) (a p : ℕ) : Type 0 where
-  pub row : Row
-  pub number-is : a ≡ number row
-  pub applies : Applies row p
+not-other : (a n : ℕ) → a ≡ n → not (eqb a n) ≡ true → ⊥
+not-other a n e t = true≢false (sym t ∙ ap not (eq-eqb a n e))
 
 module _ {Row : Type 0} (number : Row → ℕ) (Applies : Row → ℕ → Type 0) where
   -- Two answers that an ordered list of rows allows are equal, where no row applies at two places.
@@ -72,11 +69,16 @@ module _ {Row : Type 0} (number : Row → ℕ) (Applies : Row → ℕ → Type 0
   passed-none (row ∷ rows) a p t z (inr (none-applies, later)) =
       let rest = passed-none rows a p (rest-passes (λ r. ltb 0 (number r)) row rows t) z later in ((none-applies, rest .0), rest .1)
 
-  -- A number other than 0 is given by a row that applies.
-  pub answered-row : (rows : List Row) (a p : ℕ) → (a ≡ 0 → ⊥) → Answered number Applies rows a p → GivenBy number Applies a p
-  answered-row [] a p refused (x, y) = absurd (refused x)
-  answered-row (row ∷ rows) a p refused (inl (e, x)) = record { row = row; number-is = e; applies = x }
-  answered-row (row ∷ rows) a p refused (inr (none-applies, later)) = answered-row rows a p refused later
+  -- A number that one row alone has is given by that row.
+  module _ (row : Row) (rest : List Row) (a p : ℕ) (positive : ltb 0 (number row) ≡ true) (e : a ≡ number row) where
+    pub given-by : (before : List Row) → each (λ r. not (eqb (number r) (number row))) (before ++ rest) ≡ true → Answered number Applies (before ++ (row ∷ rest)) a p → Applies row p
+    given-by [] t (inl (q, x)) = x
+    given-by [] t (inr (none-applies, later)) =
+        absurd
+        (not-other a (number row) e
+        (answered-tested (λ n. not (eqb n (number row))) rest a p t (λ z. absurd (omega (arith, z, e, ltb-true 0 (number row) positive))) later))
+    given-by (r ∷ before) t (inl (q, x)) = absurd (not-other (number r) (number row) (sym q ∙ e) (first-passes (λ s. not (eqb (number s) (number row))) r (before ++ rest) t))
+    given-by (r ∷ before) t (inr (none-applies, later)) = given-by before (rest-passes (λ s. not (eqb (number s) (number row))) r (before ++ rest) t) later
 
   -- ---- two parts
 
@@ -101,6 +103,12 @@ module _ {Row : Type 0} (number : Row → ℕ) (Applies : Row → ℕ → Type 0
           → ((a ≡ 0 → ⊥) × Answered number Applies (row ∷ rows) a p) ⊎ (NoneOf Applies (row ∷ rows) × Answered number Applies rest a p)
       go (inl (refused, x)) = inl (refused, inr (none-applies, x))
       go (inr (none, x)) = inr ((none-applies, none), x)
+
+  -- Where some row of the first part applies, that part answers, with a number that passes the test that its rows' numbers pass.
+  pub first-answers : (test : ℕ → Bool) (rows rest : List Row) (a p : ℕ) → Positive number rows → each (λ row. test (number row)) rows ≡ true
+      → (NoneOf Applies rows → ⊥) → Answered number Applies (rows ++ rest) a p → (a ≡ 0 → ⊥) × (test a ≡ true)
+  first-answers test rows rest a p t passes some-applies x =
+      ⊎-elim (λ y. (y .0, answered-tested test rows a p passes (λ z. absurd (y .0 z)) (y .1))) (λ y. absurd (some-applies (y .0))) (answered-parts rows rest a p t x)
 
   pub rest-answers : (rows rest : List Row) (a p : ℕ) → NoneOf Applies rows → Answered number Applies (rows ++ rest) a p → Answered number Applies rest a p
   rest-answers [] rest a p none x = x

@@ -17,8 +17,8 @@ use native.Mathlib.Omega.{arith}
 use borrow.Author.Count.{below-more}
 use Rattle.words.specs.declared.kind.Kind.the-variants.{NoWord}
 use Rattle.table.specs.Table.{kindAt, contentAt}
-use Rattle.table.specs.Faults.{NamedVariable, Repeats}
-use Rattle.checker.specs.Steps.Names.{startOf, Reach, here, further, InChain, Chains}
+use Rattle.table.specs.Faults.{Repeats}
+use Rattle.checker.specs.Steps.Names.{startOf, Reach, here, further, NamedVariable, InChain, Chains}
 
 -- a 16-bit number times m
 times-below : (x m : ℕ) → x < 65536 → 0 < m → x * m < m * 65536
@@ -142,11 +142,14 @@ pub walk-hits :
     contentAt t v ≡ contentAt t a →
     Repeats t a
 walk-hits {t} {a} {label} {next} {v} w other k e = record {
-  later = k;
-  earlier = v;
-  before = w .kept .below;
-  variable-there = w .kept .named-there (omega (arith, other)) .variable-here;
-  same-label = e;
+  stood = record {
+    later = k .variable-here;
+    earlier = v;
+    before = w .kept .below;
+    variable-there = w .kept .named-there (omega (arith, other)) .variable-here;
+    same-label = e;
+  };
+  other-label = k .other-label;
 }
 
 nothing-left : {next : ℕ → ℕ} {v b : ℕ} → Reach next v b → v ≡ 0 → 0 < b → ⊥
@@ -154,8 +157,8 @@ nothing-left here e p = omega arith
 nothing-left (further q r) e p = omega arith
 
 -- what is repeated has a name too
-earlier-named : {t : List ℕ} {a : ℕ} (r : Repeats t a) → NamedVariable t (r .earlier)
-earlier-named r = record { variable-here = r .variable-there; other-label = λ e. r .later .other-label (sym (r .same-label) ∙ e) }
+earlier-named : {t : List ℕ} {a : ℕ} (r : Repeats t a) → NamedVariable t (r .stood .earlier)
+earlier-named r = record { variable-here = r .stood .variable-there; other-label = λ e. r .other-label (sym (r .stood .same-label) ∙ e) }
 
 pub walk-misses :
     {t : List ℕ} {a label : ℕ} {next : ℕ → ℕ} {v : ℕ} →
@@ -165,8 +168,8 @@ pub walk-misses :
     v ≡ 0 →
     Repeats t a →
     ⊥
-walk-misses {t} {a} none w l e r = go (ℕ-discrete (r .earlier) 0)
+walk-misses {t} {a} none w l e r = go (ℕ-discrete (r .stood .earlier) 0)
   where
-    go : Dec (r .earlier ≡ 0) → ⊥
-    go (yes z) = let c : _≡_ {A = ℕ} 0 1 = cc (ap (kindAt t) z) in omega arith
-    go (no z) = nothing-left (w .left (r .earlier) (omega (arith, z)) (r .before) (earlier-named r) (r .same-label ∙ sym l)) e (omega (arith, z))
+    go : Dec (r .stood .earlier ≡ 0) → ⊥
+    go (yes z) = let c : _≡_ {A = ℕ} 0 1 = cc (none, r .stood .variable-there, ap (kindAt t) z) in omega arith
+    go (no z) = nothing-left (w .left (r .stood .earlier) (omega (arith, z)) (r .stood .before) (earlier-named r) (r .stood .same-label ∙ sym l)) e (omega (arith, z))

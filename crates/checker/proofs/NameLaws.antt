@@ -23,12 +23,12 @@ use Rattle.words.specs.Word.{kindOf}
 use Rattle.words.specs.declared.kind.Kind.the-variants.{Variable}
 use Rattle.table.specs.Table.{wordAt, kindAt, contentAt, nodeKind}
 use Rattle.table.proofs.Readable.{inside-kind}
-use Rattle.table.specs.Faults.{NamedVariable, Repeats}
-use Rattle.checker.specs.Steps.Names.{Either, startOf, headIn, nextIn, RestStays, Chained, ChainedOn, NameJudged, FirstRepeated}
+use Rattle.table.specs.Faults.{Repeats}
+use Rattle.checker.specs.Steps.Names.{Either, startOf, NamedVariable, headIn, nextIn, RestStays, Chained, ChainedOn, NameJudged, FirstRepeated}
 use Rattle.checker.proofs.ChainLaws.{chains-none, chains-pass, chains-more, InFront}
 
 pub repeats-inside : {t : List ℕ} {a : ℕ} → Repeats t a → a < length t
-repeats-inside {t} {a} r = inside-kind t a nodeKind refl (ap nodeKind (r .later .variable-here))
+repeats-inside {t} {a} r = inside-kind t a nodeKind refl (ap nodeKind (r .stood .later))
 
 -- no variable stands at address 0
 past-first : {t work : List ℕ} {a : ℕ} → Chained t work a → NamedVariable t a → a ≡ 0 → ⊥
@@ -89,7 +89,7 @@ chained-pass c other = chained-unnamed c (λ n. other (n .variable-here))
 
 pub judged-other : {t work : List ℕ} {a : ℕ} → Chained t work a → (NamedVariable t a → ⊥) → NameJudged t work work a false
 judged-other {t} {work} c other = record {
-  verdict = λ r. other (r .later);
+  verdict = λ r. other (record { variable-here = r .stood .later; other-label = r .other-label });
   goes-on = record { chained = chained-unnamed c other; stays = stays-same t work };
 }
 
@@ -154,7 +154,7 @@ pub none-first : {t work : List ℕ} → Chained t work 1 → 0 < length t → N
 none-first {t} {work} c some = record {
   row = record { chained = c; stays = stays-same t work };
   within = some;
-  none-before = λ j i r. omega (arith, r .before);
+  none-before = λ j i r. omega (arith, r .stood .before);
 }
 
 pub none-more :

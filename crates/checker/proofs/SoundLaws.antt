@@ -38,7 +38,7 @@ unfolding badWord kindOf
 good-first t e = record {
   word = ap not (eq-eqb (wordAt t 0) 0 e);
   pointer = ap (λ (w : ℕ). sameKind (kindOf w) Pointer && badTarget t (contentAt t 0)) e;
-  name = λ r. omega (arith, r .before);
+  name = λ r. omega (arith, r .stood .before);
 }
 
 -- a later word is good if its kind, its content and its name are
@@ -94,7 +94,7 @@ one-word t wanted a h e g = record {
 module _ (t : List ℕ) (a : ℕ) (later : 0 < a) where
   -- a word that is no variable has no name
   other-good : (k : Kind) → kindAt t a ≡ k → sameKind k Variable ≡ false → badKind k (contentAt t a) ≡ false → (sameKind k Pointer && badTarget t (contentAt t a)) ≡ false → Good t a
-  other-good k e v w p = good-later t a k later e w p (λ r. not-both e v (r .later .variable-here))
+  other-good k e v w p = good-later t a k later e w p (λ r. not-both e v (r .stood .later))
 
   pub variable-good : kindAt t a ≡ Variable → (Repeats t a → ⊥) → Good t a
   unfolding badKind

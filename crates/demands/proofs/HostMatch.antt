@@ -110,8 +110,8 @@ module _ {bytes : List ℕ} {job : ℕ} {room : List ℕ} (passes : HostPasses b
   abbrev work : List ℕ
   work = replicate (4 * wordsOf bytes job) 0
 
-  pub long : length table ≡ wordsOf bytes job
-  long = length-rowIn 4 (wordsOf bytes job) (bodyIn bytes (entryOf job))
+  pub table-long : length table ≡ wordsOf bytes job
+  table-long = length-rowIn 4 (wordsOf bytes job) (bodyIn bytes (entryOf job))
 
   same-job : lentJob table (listOf bytes job) class work ≡ calledJob bytes job
   same-job = ap₂ (sent table (listOf bytes job)) (length-replicate {A = ℕ} (wordsOf bytes job) 0) (length-replicate {A = ℕ} (4 * wordsOf bytes job) 0)
@@ -139,11 +139,11 @@ module _ {bytes : List ℕ} {job : ℕ} {room : List ℕ} (passes : HostPasses b
       bound = λ z. let b = h .bound (sym (as-told .number-is) ∙ z) in record {
         table = h .classes;
         class-table = b .class-table;
-        row = sym (ap (λ (l : List ℕ). h .classes ++ l) (drop-of-length-le class {i = length table} (omega (arith, long, length-replicate {A = ℕ} (wordsOf bytes job) 0))) ∙ append-nil (h .classes));
+        row = sym (ap (λ (l : List ℕ). h .classes ++ l) (drop-of-length-le class {i = length table} (omega (arith, table-long, length-replicate {A = ℕ} (wordsOf bytes job) 0))) ∙ append-nil (h .classes));
         joins-counted = as-told .joins-is ∙ b .joins-counted;
       };
-      refused = λ z. h .refused (λ e. z (as-told .number-is ∙ e)) .1 ∙ sym (left-zero (length table) (wordsOf bytes job) long);
-      work-left = sym (left-zero (4 * length table) (4 * wordsOf bytes job) (ap (λ (n : ℕ). 4 * n) long));
+      refused = λ z. h .refused (λ e. z (as-told .number-is ∙ e)) .1 ∙ sym (left-zero (length table) (wordsOf bytes job) table-long);
+      work-left = sym (left-zero (4 * length table) (4 * wordsOf bytes job) (ap (λ (n : ℕ). 4 * n) table-long));
     }
 
     pub called-passes : Passes (lentJob table (listOf bytes job) class work)

@@ -57,7 +57,7 @@ module _ {job : Job} where
   check-place a p (inr (s, inr (r, inr (w, inl (e, layout-fault b))))) = omega (arith, break-within (job .table) p b, few-words s)
   check-place a p (inr (s, inr (r, inr (w, inr (l, inl (e, pointer-fault f)))))) = omega (arith, f .has .0, few-words s)
   check-place a p (inr (s, inr (r, inr (w, inr (l, inr (q, inl (e, name-fault f))))))) =
-      omega (arith, inside-kind (job .table) p (λ k. sameKind k Variable) refl (ap (λ (k : Kind). sameKind k Variable) (f .has .later .variable-here)), few-words s)
+      omega (arith, inside-kind (job .table) p (λ k. sameKind k Variable) refl (ap (λ (k : Kind). sameKind k Variable) (f .has .stood .later)), few-words s)
   check-place a p (inr (s, inr (r, inr (w, inr (l, inr (q, inr (n, inl (e, loop-fault x y)))))))) = omega arith
   check-place a p (inr (s, inr (r, inr (w, inr (l, inr (q, inr (n, inr (o, (z, e))))))))) = omega (arith, e)
 

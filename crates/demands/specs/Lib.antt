@@ -1,3 +1,3 @@
--- When a job of a file passes all checks; row 6 before it was amended.
+-- When a job of a file passes all checks; which labels two variables share.
 pub mod HostPasses
-pub mod NamesBefore
+pub mod SharedLabels

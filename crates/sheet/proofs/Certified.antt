@@ -25,11 +25,9 @@ unfoldable pub isNone : Option ℕ → Bool
 isNone none = true
 isNone (some a) = false
 
-unfoldable pub hasName : List ℕ → ℕ → Bool
-hasName t a = sameKind (kindAt t a) Kind.Variable and not (eqb (contentAt t a) unnamed)
-
 unfoldable pub repeatsAt : List ℕ → ℕ → ℕ → Bool
-repeatsAt t a b = hasName t a and sameKind (kindAt t b) Kind.Variable and eqb (contentAt t b) (contentAt t a)
+repeatsAt t a b =
+    sameKind (kindAt t a) Kind.Variable and sameKind (kindAt t b) Kind.Variable and eqb (contentAt t b) (contentAt t a) and not (eqb (contentAt t a) unnamed)
 
 -- the rows 1 and 3 to 6 do not apply to the table
 unfoldable pub goodTable : List ℕ → Bool

@@ -24,7 +24,7 @@ use Rattle.graphs.proofs.Replay.{both-true, all-below}
 use Rattle.graphs.proofs.Theorems.{log-class-table, log-no-clash, log-no-cycle, log-clash, log-cycle, ranks-no-loop, ways-loop}
 use Rattle.table.specs.Table.{kindAt, contentAt, nodeKind, graphOf}
 use Rattle.table.specs.Layout.{item, breakFrom}
-use Rattle.table.specs.Faults.{Job, badWord, badPointer, NamedVariable, Repeats, odd, badSides, pairAt, Row, SIZE, ROOM, NAME, LOOP, LIST, ADDRESS, number, Fault, size-fault, room-fault, name-fault, loop-fault, list-fault, address-fault, sizeRows, shapeRows, listRows, pairRows, matchOrder}
+use Rattle.table.specs.Faults.{Job, badWord, badPointer, Repeats, odd, badSides, pairAt, Row, SIZE, ROOM, NAME, LOOP, LIST, ADDRESS, number, Fault, size-fault, room-fault, name-fault, loop-fault, list-fault, address-fault, sizeRows, shapeRows, listRows, pairRows, matchOrder}
 use Rattle.table.specs.Readable.{Readable}
 use Rattle.table.proofs.Children.{node-kind}
 use Rattle.table.proofs.Readable.{inside-kind}
@@ -32,7 +32,7 @@ use Rattle.checker.proofs.Stages.{readable-none}
 use Rattle.matcher.specs.Match.{Passes}
 use Rattle.matcher.proofs.Verdicts.{ready, list-so-far, accepted-answered, clash-answered, cycle-answered}
 use Rattle.sheet.specs.Sheet.{Example, jobWith, RowHolds}
-use Rattle.sheet.proofs.Certified.{isNone, hasName, repeatsAt, goodTable, goodList, RowSettled, Certificate, loop, settles, clash, cycle, endsIn, settled, sameRow, answers, nothingMade, graphIn, pairsIn, makes, settledBefore, passes, allPass}
+use Rattle.sheet.proofs.Certified.{isNone, repeatsAt, goodTable, goodList, RowSettled, Certificate, loop, settles, clash, cycle, endsIn, settled, sameRow, answers, nothingMade, graphIn, pairsIn, makes, settledBefore, passes, allPass}
 
 -- ---- tests and what they show
 
@@ -66,18 +66,15 @@ record Sent (t : List ℕ) : Type 0 where
   pub readable : Readable t
   pub names : (a : ℕ) → Repeats t a → ⊥
 
-name-shown : (t : List ℕ) (a : ℕ) → NamedVariable t a → hasName t a ≡ true
-unfolding hasName _and_
-name-shown t a n =
-    ap (λ (k : Kind). sameKind k Kind.Variable and not (eqb (contentAt t a) unnamed)) (n .variable-here)
-    ∙ ap not (ne-eqb (contentAt t a) unnamed (n .other-label))
-
-repeats-shown : (t : List ℕ) (a : ℕ) (r : Repeats t a) → repeatsAt t a (r .earlier) ≡ true
+repeats-shown : (t : List ℕ) (a : ℕ) (r : Repeats t a) → repeatsAt t a (r .stood .earlier) ≡ true
 unfolding repeatsAt _and_
 repeats-shown t a r =
-    ap (λ (b : Bool). b and sameKind (kindAt t (r .earlier)) Kind.Variable and eqb (contentAt t (r .earlier)) (contentAt t a)) (name-shown t a (r .later))
-    ∙ ap (λ (k : Kind). sameKind k Kind.Variable and eqb (contentAt t (r .earlier)) (contentAt t a)) (r .variable-there)
-    ∙ eq-eqb (contentAt t (r .earlier)) (contentAt t a) (r .same-label)
+    let b : ℕ = r .stood .earlier in
+    let named : Bool = not (eqb (contentAt t a) unnamed) in
+    ap (λ (k : Kind). sameKind k Kind.Variable and sameKind (kindAt t b) Kind.Variable and eqb (contentAt t b) (contentAt t a) and named) (r .stood .later)
+    ∙ ap (λ (k : Kind). sameKind k Kind.Variable and eqb (contentAt t b) (contentAt t a) and named) (r .stood .variable-there)
+    ∙ ap (λ (c : Bool). c and named) (eq-eqb (contentAt t b) (contentAt t a) (r .stood .same-label))
+    ∙ ap not (ne-eqb (contentAt t a) unnamed (r .other-label))
 
 good-sent : (t : List ℕ) → goodTable t ≡ true → Sent t
 unfolding goodTable
@@ -99,8 +96,8 @@ good-sent t e =
       names = λ a r.
           fails
           (all-below (λ b. not (repeatsAt t a b)) a
-          (all-below (λ b. allBelow (λ c. not (repeatsAt t b c)) b) (length t) names a (inside-kind t a nodeKind refl (ap nodeKind (r .later .variable-here))))
-          (r .earlier) (r .before))
+          (all-below (λ b. allBelow (λ c. not (repeatsAt t b c)) b) (length t) names a (inside-kind t a nodeKind refl (ap nodeKind (r .stood .later))))
+          (r .stood .earlier) (r .stood .before))
           (repeats-shown t a r);
     }
 

@@ -25,7 +25,7 @@ use Rattle.matcher.specs.Match.{numberOf, placeOf, joinsOf, AcceptedWith, jobOf
 use Rattle.matcher.proofs.OneMatch.{refused-joins}
 use Rattle.sheet.specs.Sheet.{Example, refused, examples, RowHolds}
 use Rattle.sheet.specs.Matcher.{Gives}
-use Rattle.sheet.proofs.Certified.{isNone, hasName, repeatsAt, goodTable, goodList, RowSettled, Certificate, loop, settles, clash, cycle, endsIn, settled, sameRow, answers, nothingMade, makes, settledBefore, passes, allPass}
+use Rattle.sheet.proofs.Certified.{isNone, repeatsAt, goodTable, goodList, RowSettled, Certificate, loop, settles, clash, cycle, endsIn, settled, sameRow, answers, nothingMade, makes, settledBefore, passes, allPass}
 use Rattle.sheet.proofs.Laws.{all-pass-hold}
 
 -- ---- certificates
@@ -63,7 +63,7 @@ certificates =
 -- ---- the sheet
 
 tested : allPass examples certificates ≡ true
-unfolding certificates by-pair by-place down with-ranks decide ℕ-discrete kindOf isNode bit count nodes classes joins _and_ _or_ childrenBeside childrenOf grounded isTrue keyOf key renamed merged apartFrom apart ifTrue replayFrom replay allBelow holdsPairs sameNames agreesWith agrees closed ranksFall ranksFallAt ranked differFrom differ clashes isAmong isBelow leads cycles leadsDown loops choose symbol-decide named namedFrom headOf canStand after atEnd breakFrom badKind badWord badTarget pairsOf odd isNone hasName repeatsAt goodTable goodList endsIn settled sameRow answers nothingMade makes settledBefore passes allPass
+unfolding certificates by-pair by-place down with-ranks decide ℕ-discrete kindOf isNode bit count nodes classes joins _and_ _or_ childrenBeside childrenOf grounded isTrue keyOf key renamed merged apartFrom apart ifTrue replayFrom replay allBelow holdsPairs sameNames agreesWith agrees closed ranksFall ranksFallAt ranked differFrom differ clashes isAmong isBelow leads cycles leadsDown loops choose symbol-decide named namedFrom headOf canStand after atEnd breakFrom badKind badWord badTarget pairsOf odd isNone repeatsAt goodTable goodList endsIn settled sameRow answers nothingMade makes settledBefore passes allPass
 tested = refl
 
 -- Each row of the sheet says what the definitions give.

@@ -48,18 +48,18 @@ badTarget t b = eqb b 0 || (leb (length t) b || isOneOf (Pointer ∷ Count ∷ [
 abbrev pub badPointer : List ℕ → ℕ → Bool
 badPointer t a = sameKind (kindAt t a) Pointer && badTarget t (contentAt t a)
 
--- a variable with a name: its label is another than that of "the variable that ISO Prolog spells as a bare underscore" (E1)
-pub record NamedVariable (t : List ℕ) (a : ℕ) : Type 0 where
-  pub variable-here : kindAt t a ≡ Variable
-  pub other-label : contentAt t a ≡ unnamed → ⊥
-
--- "a variable's label stood earlier", which E1 amends: "such words may repeat"; "other labels still may not repeat"
-pub record Repeats (t : List ℕ) (a : ℕ) : Type 0 where
-  pub later : NamedVariable t a
+-- "a variable's label stood earlier"
+pub record StoodEarlier (t : List ℕ) (a : ℕ) : Type 0 where
+  pub later : kindAt t a ≡ Variable
   pub earlier : ℕ
   pub before : earlier < a
   pub variable-there : kindAt t earlier ≡ Variable
   pub same-label : contentAt t earlier ≡ contentAt t a
+
+-- .. as document 02, E1, amends it: words of label 0 "may repeat", "other labels still may not repeat"
+pub record Repeats (t : List ℕ) (a : ℕ) : Type 0 where
+  pub stood : StoodEarlier t a
+  pub other-label : contentAt t a ≡ unnamed → ⊥
 
 -- ---- the list
 

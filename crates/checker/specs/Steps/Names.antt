@@ -6,9 +6,10 @@ use mathlib.Core.List.{List}
 use Prim.Native.Nat.{ℕ, _+_, _*_, _/_, _%_, _≤_, _<_}
 use lib.ListN.{length, getD, drop}
 use Rattle.words.specs.Limits.{mostWords}
-use Rattle.words.specs.declared.kind.Kind.the-variants.{NoWord}
+use Rattle.words.specs.Word.{unnamed}
+use Rattle.words.specs.declared.kind.Kind.the-variants.{Variable, NoWord}
 use Rattle.table.specs.Table.{kindAt, contentAt}
-use Rattle.table.specs.Faults.{NamedVariable, Repeats}
+use Rattle.table.specs.Faults.{Repeats}
 
 -- Of the work row, the entries after the first 4n stay; those may be written over.
 pub record RestStays (t entry exit : List ℕ) : Type 0 where
@@ -37,6 +38,11 @@ startOf label chains = label * 40503 % 65536 * chains / 65536
 pub data Reach (next : ℕ → ℕ) : ℕ → ℕ → Type 0 where
   here : {b : ℕ} → Reach next b b
   further : {v b : ℕ} → 0 < v → Reach next (next v) b → Reach next v b
+
+-- a variable with a name: its label is not 0
+pub record NamedVariable (t : List ℕ) (a : ℕ) : Type 0 where
+  pub variable-here : kindAt t a ≡ Variable
+  pub other-label : contentAt t a ≡ unnamed → ⊥
 
 -- what stands in a chain: 0, or the address of a variable with a name, below a
 pub record InChain (t : List ℕ) (a x : ℕ) : Type 0 where

@@ -1,11 +1,12 @@
 -- Document 02, E1, "The unnamed variable", sentence by sentence. Assumes nothing.
 use mathlib.Core.Path.{_≡_}
 use mathlib.Core.Logic.{_↔_}
-use mathlib.Core.List.{List, [], _∷_, _++_}
+use mathlib.Core.List.{List, [], _∷_}
 use Prim.Native.Nat.{ℕ, _≤_, _<_}
 use lib.ListN.{length, take}
 use Rattle.answering.specs.Answers.{Lowest}
-use Rattle.table.specs.Faults.{NamedVariable, Repeats, LOOP, checkOrder, listRows, pairRows, matchOrder}
+use Rattle.table.specs.Table.{contentAt}
+use Rattle.table.specs.Faults.{StoodEarlier, Repeats}
 use Rattle.table.specs.Relabelled.{Relabelled}
 use Rattle.checker.specs.declared.answer.Checked.{Checked}
 use Rattle.checker.specs.Check.{CheckOf, numberOf as checkNumber, placeOf as checkPlace, checkedJob}
@@ -17,9 +18,9 @@ use Rattle.host.specs.Host.{HostOf}
 use Rattle.station.specs.Entries.{LentOf, CheckedOf}
 use Rattle.sheet.specs.Sheet.{twoUnnamed}
 use Rattle.demands.specs.HostPasses.{HostPasses}
-use Rattle.demands.specs.NamesBefore.{StoodEarlier, OnlyUnnamedRepeat, UnnamedOnce}
+use Rattle.demands.specs.SharedLabels.{OnlyUnnamedRepeat, UnnamedOnce}
 use Rattle.demands.proofs.Entries.{lent-answered, check-entry-answered}
-use Rattle.demands.proofs.Labels.{six-repeats, host-six-repeats, only-named, never-six, repeated-refused, host-repeated-refused, elsewhere-same, match-relabelled, lent-relabelled, host-relabelled, bound-apart}
+use Rattle.demands.proofs.Labels.{only-named, elsewhere-same, check-six, match-six, host-six, check-refused, match-refused, host-refused, bound-apart, match-relabelled, lent-relabelled, host-relabelled}
 
 -- ==== "Our loader writes label 0 for the variable that ISO Prolog spells as a bare underscore, and every one is a different variable."
 --
@@ -35,22 +36,22 @@ two-unnamed-bound-apart = bound-apart
 
 pub check-lets-unnamed-repeat : {t class work : List ℕ} {r : Checked} {class-after work-after : List ℕ} → CheckOf t class work r class-after work-after
     → OnlyUnnamedRepeat t → checkNumber r ≡ 6 → ⊥
-check-lets-unnamed-repeat {t} {class} {work} c only = never-six (checkedJob t class work) only checkOrder _ _ (c .answered)
+check-lets-unnamed-repeat {t} {class} {work} c only e = only-named only (check-six (checkedJob t class work) _ _ (c .answered) e .has)
 
 pub check-entry-lets-unnamed-repeat : {t class work : List ℕ} {r : ℕ} {class-after work-after : List ℕ} → CheckedOf t class work r class-after work-after
     → OnlyUnnamedRepeat t → answerIn r ≡ 6 → ⊥
-check-entry-lets-unnamed-repeat {t} {class} {work} c only = never-six (checkedJob t class work) only checkOrder _ _ (check-entry-answered c)
+check-entry-lets-unnamed-repeat {t} {class} {work} c only e = only-named only (check-six (checkedJob t class work) _ _ (check-entry-answered c) e .has)
 
 pub match-lets-unnamed-repeat : {t list class work : List ℕ} {r : Matched} {class-after work-after : List ℕ} → MatchOf t list class work r class-after work-after
     → OnlyUnnamedRepeat t → numberOf r ≡ 6 → ⊥
-match-lets-unnamed-repeat {t} {list} {class} {work} m only = never-six (jobOf t list class work) only matchOrder _ _ (m .answered)
+match-lets-unnamed-repeat {t} {list} {class} {work} m only e = only-named only (match-six (jobOf t list class work) _ _ (m .answered) e .has)
 
 pub lent-lets-unnamed-repeat : {t list class work : List ℕ} {r : ℕ} {class-after work-after : List ℕ} → LentOf t list class work r class-after work-after
     → OnlyUnnamedRepeat t → answerIn r ≡ 6 → ⊥
-lent-lets-unnamed-repeat {t} {list} {class} {work} m only = never-six (jobOf t list class work) only matchOrder _ _ (lent-answered m)
+lent-lets-unnamed-repeat {t} {list} {class} {work} m only e = only-named only (match-six (jobOf t list class work) _ _ (lent-answered m) e .has)
 
 pub host-call-lets-unnamed-repeat : {bytes room after : List ℕ} {job r : ℕ} → HostOf bytes job room r after → OnlyUnnamedRepeat (tableOf bytes job) → r ≡ 6 → ⊥
-host-call-lets-unnamed-repeat h only e = only-named only (host-six-repeats (h .answered) e .has)
+host-call-lets-unnamed-repeat h only e = only-named only (host-six h e .has)
 
 -- ==== "and variables are told apart by address in all demands from now on;"
 --
@@ -80,22 +81,22 @@ host-call-ignores-labels = host-relabelled
 
 pub check-refuses-repeated : {t class work : List ℕ} {r : Checked} {class-after work-after : List ℕ} → CheckOf t class work r class-after work-after
     → {a : ℕ} → Repeats t a → (1 ≤ checkNumber r) × (checkNumber r ≤ 6)
-check-refuses-repeated {t} {class} {work} c again = repeated-refused (checkedJob t class work) again (LOOP ∷ []) _ _ (c .answered)
+check-refuses-repeated {t} {class} {work} c again = check-refused (checkedJob t class work) _ _ again (c .answered)
 
 pub check-entry-refuses-repeated : {t class work : List ℕ} {r : ℕ} {class-after work-after : List ℕ} → CheckedOf t class work r class-after work-after
     → {a : ℕ} → Repeats t a → (1 ≤ answerIn r) × (answerIn r ≤ 6)
-check-entry-refuses-repeated {t} {class} {work} c again = repeated-refused (checkedJob t class work) again (LOOP ∷ []) _ _ (check-entry-answered c)
+check-entry-refuses-repeated {t} {class} {work} c again = check-refused (checkedJob t class work) _ _ again (check-entry-answered c)
 
 pub match-refuses-repeated : {t list class work : List ℕ} {r : Matched} {class-after work-after : List ℕ} → MatchOf t list class work r class-after work-after
     → {a : ℕ} → Repeats t a → (1 ≤ numberOf r) × (numberOf r ≤ 6)
-match-refuses-repeated {t} {list} {class} {work} m again = repeated-refused (jobOf t list class work) again (LOOP ∷ listRows ++ pairRows) _ _ (m .answered)
+match-refuses-repeated {t} {list} {class} {work} m again = match-refused (jobOf t list class work) _ _ again (m .answered)
 
 pub lent-refuses-repeated : {t list class work : List ℕ} {r : ℕ} {class-after work-after : List ℕ} → LentOf t list class work r class-after work-after
     → {a : ℕ} → Repeats t a → (1 ≤ answerIn r) × (answerIn r ≤ 6)
-lent-refuses-repeated {t} {list} {class} {work} m again = repeated-refused (jobOf t list class work) again (LOOP ∷ listRows ++ pairRows) _ _ (lent-answered m)
+lent-refuses-repeated {t} {list} {class} {work} m again = match-refused (jobOf t list class work) _ _ again (lent-answered m)
 
 pub host-call-refuses-repeated : {bytes room after : List ℕ} {job r : ℕ} → HostOf bytes job room r after → {a : ℕ} → Repeats (tableOf bytes job) a → (1 ≤ r) × (6 < r → 12 ≤ r)
-host-call-refuses-repeated = host-repeated-refused
+host-call-refuses-repeated = host-refused
 
 -- ==== "Refusals: 6 is no longer given for label 0."
 --
@@ -104,25 +105,25 @@ host-call-refuses-repeated = host-repeated-refused
 
 pub check-six-repeats : {t class work : List ℕ} {r : Checked} {class-after work-after : List ℕ} → CheckOf t class work r class-after work-after
     → checkNumber r ≡ 6 → Lowest (Repeats t) (checkPlace r)
-check-six-repeats {t} {class} {work} c = six-repeats (checkedJob t class work) checkOrder _ _ (c .answered)
+check-six-repeats {t} {class} {work} c = check-six (checkedJob t class work) _ _ (c .answered)
 
 pub check-entry-six-repeats : {t class work : List ℕ} {r : ℕ} {class-after work-after : List ℕ} → CheckedOf t class work r class-after work-after
     → answerIn r ≡ 6 → Lowest (Repeats t) (placeIn r)
-check-entry-six-repeats {t} {class} {work} c = six-repeats (checkedJob t class work) checkOrder _ _ (check-entry-answered c)
+check-entry-six-repeats {t} {class} {work} c = check-six (checkedJob t class work) _ _ (check-entry-answered c)
 
 pub match-six-repeats : {t list class work : List ℕ} {r : Matched} {class-after work-after : List ℕ} → MatchOf t list class work r class-after work-after
     → numberOf r ≡ 6 → Lowest (Repeats t) (placeOf r)
-match-six-repeats {t} {list} {class} {work} m = six-repeats (jobOf t list class work) matchOrder _ _ (m .answered)
+match-six-repeats {t} {list} {class} {work} m = match-six (jobOf t list class work) _ _ (m .answered)
 
 pub lent-six-repeats : {t list class work : List ℕ} {r : ℕ} {class-after work-after : List ℕ} → LentOf t list class work r class-after work-after
     → answerIn r ≡ 6 → Lowest (Repeats t) (placeIn r)
-lent-six-repeats {t} {list} {class} {work} m = six-repeats (jobOf t list class work) matchOrder _ _ (lent-answered m)
+lent-six-repeats {t} {list} {class} {work} m = match-six (jobOf t list class work) _ _ (lent-answered m)
 
 pub host-call-six-repeats : {bytes room after : List ℕ} {job r : ℕ} (h : HostOf bytes job room r after) → r ≡ 6 → Lowest (Repeats (tableOf bytes job)) (h .place)
-host-call-six-repeats h = host-six-repeats (h .answered)
+host-call-six-repeats = host-six
 
-pub repeated-has-name : {t : List ℕ} {a : ℕ} → Repeats t a → NamedVariable t a
-repeated-has-name r = r .later
+pub repeated-has-name : {t : List ℕ} {a : ℕ} → Repeats t a → contentAt t a ≡ 0 → ⊥
+repeated-has-name r = r .other-label
 
 pub row-6-elsewhere-stays : {t : List ℕ} → UnnamedOnce t → (a : ℕ) → Lowest (StoodEarlier t) a ↔ Lowest (Repeats t) a
 row-6-elsewhere-stays = elsewhere-same
