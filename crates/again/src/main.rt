@@ -2,6 +2,8 @@
 // standard output. A refused file gives one line: `file`, answer, place.
 //
 // What it writes is made by `written::again`. What stands here reads and writes.
+#![tactic(auto)]
+
 mod written;
 
 use libc::{STDERR_FILENO, STDIN_FILENO, STDOUT_FILENO};

@@ -5,7 +5,7 @@ ghost use Rattle.answering.specs.TableFaults.{number_of, place_of};
 use words::numbers::Address;
 
 // One case for each number from 1 to 7; those whose place is an address carry it.
-#[derive(Drop)]
+#[derive(Clone, Copy)]
 pub enum TableFault {
     Size,
     Room,

@@ -6,7 +6,7 @@ use answering::fault;
 use answering::fault::TableFault;
 
 // A table is accepted, or refused for what is wrong with it.
-#[derive(Drop)]
+#[derive(Clone, Copy)]
 pub enum Checked {
     Accepted,
     Refused(TableFault),

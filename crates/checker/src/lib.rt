@@ -4,6 +4,8 @@
 // finds it at its lowest place; those from 3 to 6 are looked for only where one walk (sound) does not
 // show that there is none. The stages come in the order of the numbers: what a later one goes by, an
 // earlier one has shown.
+#![tactic(auto)]
+
 pub mod answer;
 mod faults;
 mod loops;

@@ -13,7 +13,7 @@ use crate::{flatten, meet, settle};
 use words::numbers::{Address, PairNumber};
 
 // What comes of a row of pairs: all are joined, or the first clash comes with this one.
-#[derive(Drop)]
+#[derive(Clone, Copy)]
 pub enum Joined {
     All,
     ClashAt(PairNumber),

@@ -8,6 +8,8 @@
 // Time: each meeting follows two paths, and halving makes those short over the whole list: m meetings
 // among n nodes follow at most about m log n links, and nearly m in what is sent. Two functions go down
 // once for each join, so there are at most as many meetings as given pairs and argument words.
+#![tactic(auto)]
+
 mod flatten;
 mod forest;
 pub mod joining;

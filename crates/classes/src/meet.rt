@@ -2,7 +2,7 @@
 ghost use Rattle.std.specs.Prelude.{◌≡◌, ◌+◌, ◌*◌, ◌<◌, ◌≤◌, length, set};
 ghost use Rattle.words.specs.Limits.{most_words};
 ghost use Rattle.graphs.specs.Graph.{Node};
-ghost use Rattle.graphs.specs.Partition.{key as keyIn};
+ghost use Rattle.graphs.specs.Partition.{key as key_in};
 ghost use Rattle.table.specs.Readable.{Readable, PassedCheck};
 ghost use Rattle.table.specs.Table.{graph_of};
 ghost use Rattle.classes.specs.Steps.Meeting.{State, Meets, Ordered, Roots};
@@ -14,7 +14,7 @@ use words::meeting::Outcome;
 use words::numbers::Address;
 
 // What a step comes to: how many pairs of functions wait now, or a clash.
-#[derive(Drop)]
+#[derive(Clone, Copy)]
 pub enum Turn {
     Waiting(usize),
     Clash,
@@ -23,7 +23,7 @@ pub enum Turn {
 // The place of a node in the naming order: non-variables before variables, and then by address.
 fn key(table: &[u32], x: Address) -> usize
     requires { Readable table.now × (x.0 < length table.now) }
-    ensures { result ≡ keyIn (graph_of table.now) x.0 }
+    ensures { result ≡ key_in (graph_of table.now) x.0 }
 {
     match table::head(table, x) {
         Head::Variable(_) => table.len() + x.0 as usize,

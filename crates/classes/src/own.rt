@@ -1,7 +1,7 @@
 // Each node its own class, and the joins counted.
 ghost use Rattle.std.specs.Prelude.{◌≡◌, ◌++◌, ◌≤◌, length, drop};
 ghost use Rattle.words.specs.Limits.{most_words};
-ghost use Rattle.graphs.specs.Partition.{joins, apart as apartIn};
+ghost use Rattle.graphs.specs.Partition.{joins, apart as apart_in};
 ghost use Rattle.table.specs.Table.{graph_of};
 ghost use Rattle.classes.specs.Counting.{NamesNodes};
 
@@ -9,7 +9,7 @@ ghost use Rattle.classes.specs.Counting.{NamesNodes};
 // itself and not by a 16-bit address, which lets the compiler take several words at a time.
 pub fn apart(table: &[u32], class: &mut [u16])
     requires { (length table.now ≤ length class.old) × (length table.now ≤ most_words) }
-    ensures { class.new ≡ apartIn (graph_of table.now) ++ drop (length table.now) class.old }
+    ensures { class.new ≡ apart_in (graph_of table.now) ++ drop (length table.now) class.old }
 {
     let mut x = 0;
     while x < table.len() {

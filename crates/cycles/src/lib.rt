@@ -5,6 +5,8 @@
 // is no function has no edges: it is neither marked nor put on the path. A vertex is put on the path
 // once at most, and an edge is passed over or followed once at most, so the time is linear in the number
 // of words.
+#![tactic(auto)]
+
 mod path;
 mod reads;
 mod search;

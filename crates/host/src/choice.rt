@@ -7,7 +7,7 @@ use jobfile::answers;
 use words::limits::MOST_WORDS;
 
 // A number that refuses the call, or n and p of the job.
-#[derive(Drop)]
+#[derive(Clone, Copy)]
 pub(crate) enum Chosen {
     Refused(u16),
     Found(usize, usize),

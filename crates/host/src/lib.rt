@@ -1,5 +1,7 @@
 // The work behind the entries for C: a job out of a job file, matched on rows of its size, with the answer written into the
 // room; a file's sizes; and the numbers of an answer as one. Crate station is the entries themselves.
+#![tactic(auto)]
+
 pub mod checked;
 mod choice;
 mod found;

@@ -1,14 +1,14 @@
 // The answers of the reader and of the writer.
 ghost use Rattle.std.specs.Prelude.{◌≡◌};
-ghost use Rattle.jobfile.specs.Reader.{number_of as file_number, place_of as filePlace};
+ghost use Rattle.jobfile.specs.Reader.{number_of as file_number, place_of as file_place};
 ghost use Rattle.jobfile.specs.Writer.{number_of as write_number};
 
 // The number of an entry of the contents, from 1; J + 1 for what follows the last body.
-#[derive(Drop)]
+#[derive(Clone, Copy)]
 pub struct EntryNumber(pub u16);
 
 // The reader's: one case for each of 0, 12, 13 and 14.
-#[derive(Drop)]
+#[derive(Clone, Copy)]
 pub enum FileAnswer {
     Good,
     File,
@@ -17,7 +17,7 @@ pub enum FileAnswer {
 }
 
 // The writer's: one case for each of 0, 13, 14, 12 and 2. Their place is 0.
-#[derive(Drop)]
+#[derive(Clone, Copy)]
 pub enum WriteAnswer {
     Written,
     Contents,
@@ -40,7 +40,7 @@ pub fn file_number(answer: FileAnswer) -> u16
 
 // The place of a reader's answer.
 pub fn file_place(answer: FileAnswer) -> u16
-    ensures { result ≡ filePlace answer }
+    ensures { result ≡ file_place answer }
 {
     match answer {
         FileAnswer::Good => 0,

@@ -3,6 +3,8 @@
 // No function here asks anything of its caller, but for put_sizes and take_job, which ask for a file that passed and for rows
 // of the right lengths. A definition of specs/ says for each what it answers and what it leaves in the rows that it is lent, and
 // a theorem of proofs/Theorems.antt that it says so of one result only.
+#![tactic(auto)]
+
 pub mod answers;
 mod contents;
 mod reader;

@@ -10,7 +10,7 @@ use crate::sizes::Sizes;
 use words::limits::MOST_SIZES;
 
 // What the reader yields beside the part of the file that the bodies are.
-#[derive(Drop)]
+#[derive(Clone, Copy)]
 pub struct FileRead {
     pub answer: FileAnswer,
     pub sizes: Sizes,

@@ -2,7 +2,7 @@
 use words::limits::MOST_SIZES;
 
 // n and p of each job, in order: `count` numbers. Unused places are 0.
-#[derive(Drop)]
+#[derive(Clone, Copy)]
 pub struct Sizes {
     pub row: [u16; MOST_SIZES],
     pub count: usize,

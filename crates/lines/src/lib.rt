@@ -2,6 +2,8 @@
 //
 // Each function puts a line over the front of a lent row, in which the longest line has room, and returns the line's length.
 // The bytes after it stay. No function asks anything of its caller.
+#![tactic(auto)]
+
 mod fields;
 
 ghost use Rattle.std.specs.Prelude.{◌≤◌};

@@ -2,6 +2,8 @@
 //
 // What it writes is made by the functions of `parts`: put one after the other, the parts are the listing of the file
 // (`parts_make_listing`, proofs/Theorems.antt). What stands here reads and writes.
+#![tactic(auto)]
+
 mod job;
 mod parts;
 mod variables;

@@ -7,14 +7,14 @@ use answering::fault::TableFault;
 use words::numbers::PairNumber;
 
 // What is counted of an accepted list.
-#[derive(Drop)]
+#[derive(Clone, Copy)]
 pub struct Counts {
     pub joins: u16,
 }
 
 // A list is accepted, or refused: for what is wrong with the table, for its own length, or at the pair
 // of a number.
-#[derive(Drop)]
+#[derive(Clone, Copy)]
 pub enum Matched {
     Accepted(Counts),
     Table(TableFault),

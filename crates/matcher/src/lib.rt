@@ -7,6 +7,8 @@
 // Time: the checks and each search are linear in the words. Joining m pairs of a table of n words takes
 // at most m plus the argument words meetings, each of them a few links long (crate `classes`). A list
 // that is accepted is joined once and searched once, a refused one at most nine times more.
+#![tactic(auto)]
+
 pub mod answer;
 mod first_failure;
 mod list_faults;

@@ -4,6 +4,8 @@
 //
 // Each contract is an equation on the whole row, so it says what changes and what stays. The definitions that they cite,
 // specs/LittleEndian.antt and specs/Placed.antt, and the laws on them, proofs/Laws.antt, are for callers too.
+#![tactic(auto)]
+
 mod lengths;
 mod little_endian;
 mod row16;

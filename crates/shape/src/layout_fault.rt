@@ -1,7 +1,7 @@
 // Answer 4, LAYOUT: the row of items breaks. "From address 1 on, the table is a row of items: a
 // variable, a constant, or a block."
 ghost use Rattle.std.specs.Prelude.{◌≡◌, drop};
-ghost use Rattle.table.specs.Layout.{item, can_stand, less, more as moreOf, after as afterWord, at_end, break_from};
+ghost use Rattle.table.specs.Layout.{item, can_stand, less, more as more_of, after as after_word, at_end, break_from};
 ghost use Rattle.shape.specs.Layout.{break_of};
 ghost use Rattle.shape.specs.Steps.Wanted.{wanted_of};
 
@@ -9,7 +9,7 @@ use words::kind::Kind;
 use words::{kind, word};
 
 // What may stand next: an item; a count, after a function; the arguments that a count leaves to come.
-#[derive(Drop)]
+#[derive(Clone, Copy)]
 enum Wanted {
     Item,
     Count,
@@ -18,7 +18,7 @@ enum Wanted {
 
 // The row of items from address 1 on: whole, or broken at the first word that cannot stand there, and
 // at the table's length if a block runs past the end.
-#[derive(Drop)]
+#[derive(Clone, Copy)]
 pub enum RowOfItems {
     Whole,
     BreaksAt(usize),
@@ -43,7 +43,7 @@ fn one_less(count: u16) -> u16
 
 // What may stand next, by the number of arguments still to come.
 fn more(arguments: u16) -> Wanted
-    ensures { wanted_of result ≡ moreOf arguments }
+    ensures { wanted_of result ≡ more_of arguments }
 {
     if arguments == 0 {
         Wanted::Item
@@ -54,7 +54,7 @@ fn more(arguments: u16) -> Wanted
 
 // What may stand after a word that stands.
 fn after(wanted: Wanted, word: u32) -> Wanted
-    ensures { wanted_of result ≡ afterWord (wanted_of wanted) word }
+    ensures { wanted_of result ≡ after_word (wanted_of wanted) word }
 {
     match wanted {
         Wanted::Item => {

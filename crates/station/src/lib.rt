@@ -4,6 +4,8 @@
 // No entry asks anything of its caller. A definition (`HostOf` and `SizesOf` of crate host, and those of specs/) says for each
 // what it returns and what it leaves in the rows that it is lent, and a theorem of proofs/Theorems.antt that it says so of one
 // result only.
+#![tactic(auto)]
+
 ghost use Rattle.host.specs.Host.{HostOf};
 ghost use Rattle.host.specs.Sizes.{SizesOf};
 ghost use Rattle.station.specs.Entries.{LentOf, CheckedOf, WrittenOf};

@@ -3,6 +3,8 @@
 // children.
 //
 // Those that go into a block ask for a table that can be read, as a checked one can.
+#![tactic(auto)]
+
 pub mod node;
 
 pub use node::{child, degree, head, is_function, is_node, is_node_word};

@@ -3,7 +3,7 @@ ghost use Rattle.std.specs.Prelude.{◌≡◌, ◌+◌, ◌<◌, length};
 ghost use Rattle.words.specs.Word.{kind_of, same_kind};
 ghost use Rattle.words.specs.declared.kind.Kind.{Kind};
 ghost use Rattle.table.specs.Heads.{top};
-ghost use Rattle.table.specs.Table.{kind_at, node_kind, named, degree as degreeAt, child_of};
+ghost use Rattle.table.specs.Table.{kind_at, node_kind, named, degree as degree_at, child_of};
 ghost use Rattle.table.specs.Readable.{Readable};
 
 use words::head::Head;
@@ -44,7 +44,7 @@ pub fn is_function(table: &[u32], x: Address) -> bool
 // How many children the node at an address has.
 pub fn degree(table: &[u32], x: Address) -> u16
     requires { Readable table.now × (x.0 < length table.now) }
-    ensures { result ≡ degreeAt table.now x.0 }
+    ensures { result ≡ degree_at table.now x.0 }
 {
     let at = x.0 as usize;
     if let Kind::Function = word::kind(table[at]) {
@@ -69,7 +69,7 @@ fn named_at(table: &[u32], at: u16) -> Address
 
 // The child at place i, from 0, of the function at an address.
 pub fn child(table: &[u32], x: Address, i: u16) -> Address
-    requires { Readable table.now × (i < degreeAt table.now x.0) }
+    requires { Readable table.now × (i < degree_at table.now x.0) }
     ensures { result.0 ≡ child_of table.now x.0 i }
 {
     let first = x.0 + 2;

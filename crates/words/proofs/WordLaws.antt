@@ -71,9 +71,9 @@ found_here true tag first k rest test later e = eqb-true _ _ test ∙ ap tag_num
 found_here false tag first k rest test later e = later e
 
 found_among : (ks : List Kind) (tag : ℕ) (k : Kind) → (k ≡ NoWord → ⊥) → kind_among ks tag ≡ k → tag ≡ tag_number k
-found_among [] tag k is_Is_word e = absurd (is_Is_word (sym e))
-found_among (first ∷ ks) tag k is_Is_word e =
-    found_here (eqb tag (tag_number first)) tag first k (kind_among ks tag) refl (found_among ks tag k is_Is_word) e
+found_among [] tag k is_word e = absurd (is_word (sym e))
+found_among (first ∷ ks) tag k is_word e =
+    found_here (eqb tag (tag_number first)) tag first k (kind_among ks tag) refl (found_among ks tag k is_word) e
 
 -- by the test of the high bits
 kind_has_tag :
@@ -82,9 +82,9 @@ kind_has_tag :
     eqb (high_of w) 0 ≡ low →
     cond low (kind_of_tag (tag_of w)) NoWord ≡ k →
     w ≡ word_of (tag_number k) (content_of w)
-kind_has_tag true w k is_Is_word test e =
-    omega (arith, eqb-true (high_of w) 0 test, found_among table_kinds (tag_of w) k is_Is_word e)
-kind_has_tag false w k is_Is_word test e = absurd (is_Is_word (sym e))
+kind_has_tag true w k is_word test e =
+    omega (arith, eqb-true (high_of w) 0 test, found_among table_kinds (tag_of w) k is_word e)
+kind_has_tag false w k is_word test e = absurd (is_word (sym e))
 
 tag_has_kind : (w : ℕ) (k : Kind) → w ≡ word_of (tag_number k) (content_of w) → kind_of w ≡ k
 tag_has_kind w k e =
@@ -94,7 +94,7 @@ tag_has_kind w k e =
 
 pub kind_exactly : (w : ℕ) (k : Kind) → (k ≡ NoWord → ⊥) → kind_of w ≡ k ↔ w ≡ word_of (tag_number k) (content_of w)
 unfolding kind_of
-kind_exactly w k is_Is_word = (kind_has_tag (eqb (high_of w) 0) w k is_Is_word refl, tag_has_kind w k)
+kind_exactly w k is_word = (kind_has_tag (eqb (high_of w) 0) w k is_word refl, tag_has_kind w k)
 
 -- a number past five bits is no tag
 none_among : (ks : List Kind) (top : ℕ) → 32 ≤ top → kind_among ks top ≡ NoWord

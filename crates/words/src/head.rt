@@ -6,7 +6,7 @@ use crate::numbers::Label;
 
 // A node's kind with its data: the label and, of a function, the argument count. A checked table
 // has counts from 1 to 255; the functions here take any.
-#[derive(Drop)]
+#[derive(Clone, Copy)]
 pub enum Head {
     Variable(Label),
     Constant(Label),
@@ -14,7 +14,7 @@ pub enum Head {
 }
 
 // A label with its argument count.
-#[derive(Drop)]
+#[derive(Clone, Copy)]
 pub struct Symbol {
     pub label: Label,
     pub count: u16,

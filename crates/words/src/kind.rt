@@ -2,7 +2,7 @@
 ghost use Rattle.std.specs.Prelude.{◌≡◌};
 ghost use Rattle.words.specs.Word.{argument_kinds, is_one_of, node_kinds};
 
-#[derive(Drop)]
+#[derive(Clone, Copy)]
 pub enum Kind {
     Variable,
     Constant,

@@ -3,6 +3,8 @@
 //
 // Its contracts cite `specs/`, whose definitions a client's contracts cite too. No function has a
 // `requires`.
+#![tactic(auto)]
+
 pub mod head;
 pub mod kind;
 pub mod limits;

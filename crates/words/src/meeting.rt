@@ -8,7 +8,7 @@ use crate::head;
 use crate::head::Head;
 
 // What is to be done with two heads, by their kinds alone.
-#[derive(Drop)]
+#[derive(Clone, Copy)]
 pub enum Action {
     Join,
     JoinIfLabelsAgree,
@@ -18,7 +18,7 @@ pub enum Action {
 }
 
 // What came of two heads.
-#[derive(Drop)]
+#[derive(Clone, Copy)]
 pub enum Outcome {
     Joined,
     // Joined, and their children are to be joined place by place.

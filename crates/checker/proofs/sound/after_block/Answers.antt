@@ -1,0 +1,32 @@
+-- `checker::sound::after_block` meets its contract: a count, and then its arguments. Assumes nothing.
+use mathlib.Core.Path.{sym, ◌∙◌}
+use native.Mathlib.Omega.{arith}
+use borrow.Author.Tests.{not-false}
+use Rattle.checker.proofs.NameLaws.{stays_same}
+use Rattle.checker.proofs.WalkLaws.{nowhere, count_chained, next_arguments}
+use Rattle.checker.proofs.sound.after_block.Goals as goal
+
+pub returns-then-table-at : goal.returns-then-table-at
+returns-then-table-at c = nowhere (stays_same _ _)
+
+pub returns-then-not-is_sound_count : goal.returns-then-not-is_sound_count
+returns-then-not-is_sound_count c = nowhere (stays_same _ _)
+
+pub returns-then-table-end : goal.returns-then-table-end
+returns-then-table-end c = nowhere (stays_same _ _)
+
+pub are_sound_arguments-requires : goal.are_sound_arguments-requires
+are_sound_arguments-requires c = (
+      count_chained c.requires.0 (sym c.is_sound_count.ensures ∙ not-false _ c.if-not-is_sound_count.false-raw),
+      omega arith,
+      omega arith,
+      omega arith,
+    )
+
+pub returns-then-not-are_sound_arguments : goal.returns-then-not-are_sound_arguments
+returns-then-not-are_sound_arguments c = nowhere c.are_sound_arguments.ensures.stays
+
+pub returns : goal.returns
+returns c = next_arguments c.args.table.now c.args.at c.requires.1 c.if-table-at.false
+    (sym c.is_sound_count.ensures ∙ not-false _ c.if-not-is_sound_count.false-raw) (omega (arith, c.content.ensures))
+    c.are_sound_arguments.ensures (not-false _ c.if-not-are_sound_arguments.false-raw)

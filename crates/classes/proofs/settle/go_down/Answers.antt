@@ -1,0 +1,55 @@
+-- `classes::settle::go_down` meets its contract. The loop's invariant: the children before place i have met, and those from i on are
+-- still to meet. Assumes nothing.
+use mathlib.Core.Path.{sym, subst}
+use Prim.Native.Nat.{◌-◌}
+use native.Mathlib.Omega.{arith}
+use Rattle.graphs.specs.Graph.{Node, symbol_node}
+use Rattle.table.specs.Table.{graph_of}
+use Rattle.classes.proofs.Symbols.{one_symbol_degree, child_node}
+use Rattle.classes.proofs.Down.{going_starts, going_state, going_on, going_stops, going_ends}
+use Rattle.classes.proofs.settle.go_down.Goals as goal
+
+pub degree-count-requires : goal.degree-count-requires
+degree-count-requires c = (c.requires.0.readable, c.requires.0.well_formed.inside _ (symbol_node c.requires.2.left_head))
+
+pub loop-i-init : goal.loop-i-init
+loop-i-init c = going_starts _ _ _ c.requires.1
+
+pub child-left-requires : goal.child-left-requires
+child-left-requires c = (c.requires.0.readable, omega (arith, c.degree-count.ensures))
+
+pub child-right-requires : goal.child-right-requires
+child-right-requires c = (c.requires.0.readable, omega (arith, c.degree-count.ensures, one_symbol_degree _ c.requires.0.well_formed c.requires.2))
+
+pub meet-requires : goal.meet-requires
+meet-requires c = (
+      c.requires.0,
+      going_state c.loop-i.invariant,
+      subst (Node (graph_of c.args.table.now)) (sym c.child-left.ensures) (child_node _ c.requires.0.well_formed _ _ (omega (arith, c.degree-count.ensures))),
+      subst (Node (graph_of c.args.table.now)) (sym c.child-right.ensures)
+          (child_node _ c.requires.0.well_formed _ _ (omega (arith, c.degree-count.ensures, one_symbol_degree _ c.requires.0.well_formed c.requires.2))),
+    )
+
+pub shape_of-class-in_default : goal.shape_of-class-in_default
+shape_of-class-in_default c = omega (arith, c.meet.kept.1.0, (c.loop-i.invariant.moved []).kept.row_long)
+
+pub shape_of-work-in_default : goal.shape_of-work-in_default
+shape_of-work-in_default c = omega (arith, c.meet.kept.1.1.0, (c.loop-i.invariant.moved []).kept.work_long)
+
+pub returns-in_default : goal.returns-in_default
+returns-in_default c = going_stops c.loop-i.invariant (omega (arith, c.degree-count.ensures)) c.child-left.ensures c.child-right.ensures c.meet.ensures c.in_default.is
+
+pub loop-i-smaller : goal.loop-i-smaller
+loop-i-smaller c = omega (arith, c.degree-count.ensures)
+
+pub loop-i-preserved : goal.loop-i-preserved
+loop-i-preserved c = going_on c.loop-i.invariant (omega (arith, c.degree-count.ensures)) c.child-left.ensures c.child-right.ensures c.meet.ensures c.in-Waiting.is
+
+pub shape_of-class : goal.shape_of-class
+shape_of-class c = (c.loop-i.invariant.moved []).kept.row_long
+
+pub shape_of-work : goal.shape_of-work
+shape_of-work c = (c.loop-i.invariant.moved []).kept.work_long
+
+pub returns : goal.returns
+returns c = going_ends c.loop-i.invariant (omega (arith, c.degree-count.ensures))

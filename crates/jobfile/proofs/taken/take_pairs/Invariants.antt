@@ -1,0 +1,12 @@
+-- `jobfile::taken::take_pairs` meets its contract.
+-- Assumes nothing.
+use Prim.Native.Nat.{◌-◌}
+use Rattle.rows.proofs.Laws.{Built}
+use Rattle.jobfile.specs.Numbers.{row_in}
+use Rattle.jobfile.proofs.taken.take_pairs.Given as goal
+
+abbrev pub invariant-loop-i : goal.invariant-loop-i
+invariant-loop-i l = Built (row_in 2 l.count l.pairs) l.initial.into l.count l.i l.into
+
+abbrev pub decreases-loop-i : goal.decreases-loop-i
+decreases-loop-i l = l.count - l.i

@@ -1,0 +1,25 @@
+-- `listing::job::put_job_lines` meets its contract: the rows have room for all words or pairs of a file. Assumes nothing.
+use mathlib.Core.Path.{sym, refl}
+use native.Mathlib.Omega.{arith}
+use lib.Seq.{length-take-le}
+use Rattle.listing.proofs.JobLaws.{job_fits, rows_for_job}
+use borrow.Author.Rules.{rules}
+use Rattle.listing.proofs.job.put_job_lines.Goals as goal
+
+pub overflow_mul-entries : goal.overflow_mul-entries
+overflow_mul-entries c = omega (arith, (job_fits c.requires.0).1, c.requires.2)
+
+pub slice_bounds-table-end : goal.slice_bounds-table-end
+slice_bounds-table-end c = omega (arith, (job_fits c.requires.0).0, c.requires.1)
+
+pub slice_bounds-match_job-end : goal.slice_bounds-match_job-end
+slice_bounds-match_job-end c = sym (length-take-le _ _ (omega (arith, (job_fits c.requires.0).0, c.requires.1)))
+
+pub slice_bounds-list-end : goal.slice_bounds-list-end
+slice_bounds-list-end c = omega (arith, (job_fits c.requires.0).1, c.requires.2)
+
+pub slice_bounds-match_job-end-2 : goal.slice_bounds-match_job-end-2
+slice_bounds-match_job-end-2 c = sym (length-take-le _ _ (omega (arith, (job_fits c.requires.0).1, c.requires.2)))
+
+pub match_job-requires : goal.match_job-requires
+match_job-requires c = rows_for_job _ _ c.requires.0 c.requires.1 c.requires.2 refl (omega (arith, (job_fits c.requires.0).0, c.requires.1)) (omega (arith, (job_fits c.requires.0).1, c.requires.2)) (search rules) (search rules) c.requires.3
