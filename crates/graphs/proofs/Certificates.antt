@@ -117,13 +117,13 @@ module _ {S : Symbols} {G : Graph S} {pairs : List Pair} (wf : WellFormed G) (si
 
   -- ---- a closed row
 
-  holds_pairs_lem : (row : List ℕ) {few : List Pair} → holds_pairs few row ≡ true → (p : Pair) → p ∈ few → entry row p.left ≡ entry row p.right
+  holds_pairs_lem : (row : List ℕ) (p : Pair) {few : List Pair} → holds_pairs few row ≡ true → p ∈ few → entry row p.left ≡ entry row p.right
   unfolding holds_pairs
-  holds_pairs_lem row e p (Memᴰ.head {x = q} {xs = rest} same) =
+  holds_pairs_lem row p e (Memᴰ.head {x = q} {xs = rest} same) =
       ap (λ (u : Pair). entry row u.left) same
       ∙ eqb-true (entry row q.left) (entry row q.right) (both_true e).0
       ∙ sym (ap (λ (u : Pair). entry row u.right) same)
-  holds_pairs_lem row e p (Memᴰ.tail {x = q} {xs = rest} m) = holds_pairs_lem row (both_true e).1 p m
+  holds_pairs_lem row p e (Memᴰ.tail {x = q} {xs = rest} m) = holds_pairs_lem row p (both_true e).1 m
 
   same_names_lem : (row xs ys : List ℕ) → same_names row xs ys ≡ true → (i : ℕ) → i < length xs → entry row (get_or xs i 0) ≡ entry row (get_or ys i 0)
   unfolding same_names
@@ -150,7 +150,7 @@ module _ {S : Symbols} {G : Graph S} {pairs : List Pair} (wf : WellFormed G) (si
     one_name_lem : {x y : ℕ} → Same G pairs x y → entry row x ≡ entry row y
     unfolding closed
     one_name_lem =
-        same_labels {G = G} (entry row) (holds_pairs_lem row (both_true shut).0)
+        same_labels {G = G} (entry row) (λ p m. holds_pairs_lem row p (both_true shut).0 m)
         (λ x y s xs ys e ex ey i hx hy.
         let nx : (zs : List ℕ) × (G.head (entry row x) ≡ symbol s zs) × (same_names row xs zs ≡ true) = as_name ex in
         let ny : (zs : List ℕ) × (G.head (entry row y) ≡ symbol s zs) × (same_names row ys zs ≡ true) = as_name ey in

@@ -17,8 +17,5 @@ pub loop-k-preserved : goal.loop-k-preserved
 loop-k-preserved c = let m = writing_more c.loop-k.invariant c.loop-k-test.true c.at-n.ensures.0 c.at-p.ensures.0 in
     rw c.put_entry.ensures m
 
-pub shape_of-file : goal.shape_of-file
-shape_of-file c = c.loop-k.invariant.built.same_length ∙ c.write16.auto.0
-
 pub returns : goal.returns
 returns c = writing_all c.requires c.write16.ensures c.loop-k.invariant c.loop-k-test.false

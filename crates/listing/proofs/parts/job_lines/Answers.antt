@@ -31,4 +31,4 @@ put_job_lines-requires c = let there = job_there c.read-read.ensures {number = c
 
 pub returns : goal.returns
 returns c = let there = job_there c.read-read.ensures {number = c.args.number} (omega arith) (omega arith) in
-    (line_counts c.put_job_lines.result c.put_job_lines.new.1.1.1.1.0 (omega (arith, c.put_job_lines.ensures.1)), part_there there c.put_job_lines.ensures.0)
+    (line_counts c.put_job_lines.result c.put_job_lines.new.row (omega (arith, c.put_job_lines.ensures.1)), part_there there c.put_job_lines.ensures.0)
