@@ -19,7 +19,9 @@ fn main() {
         }
         let archive = archives.join(format!("lib{name}.a"));
         if !archive.is_file() {
-            panic!("lib{name}.a is not there: `tools/staticlib {name}` makes it, and `make test` all");
+            panic!(
+                "lib{name}.a is not there: `tools/staticlib {name}` makes it, and `make test` all"
+            );
         }
         println!("cargo:rerun-if-changed={}", archive.display());
         println!("cargo:rustc-link-lib=static={name}");

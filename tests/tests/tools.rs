@@ -105,10 +105,7 @@ impl Small {
     /// How often a library was proved so far.
     fn proved(&self) -> usize {
         let asked = fs::read_to_string(self.0.join("asked")).expect("the kit was asked");
-        asked
-            .lines()
-            .filter(|line| line.starts_with("lib"))
-            .count()
+        asked.lines().filter(|line| line.starts_with("lib")).count()
     }
 
     fn is_there(&self, path: &str) -> bool {
