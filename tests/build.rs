@@ -1,4 +1,4 @@
-//! Links each static library that staticlibs.txt names. `rt staticlib NAME` makes it.
+//! Links each static library that staticlibs.txt names. `tools/staticlib NAME` makes it.
 
 use std::path::Path;
 use std::{env, fs};
@@ -19,7 +19,9 @@ fn main() {
         }
         let archive = archives.join(format!("lib{name}.a"));
         if !archive.is_file() {
-            panic!("lib{name}.a is not there: `rt staticlib {name}` makes it, and `make test` all");
+            panic!(
+                "lib{name}.a is not there: `tools/staticlib {name}` makes it, and `make test` all"
+            );
         }
         println!("cargo:rerun-if-changed={}", archive.display());
         println!("cargo:rustc-link-lib=static={name}");

@@ -47,13 +47,19 @@ pub fn read(path: &str) -> String {
     text_of(path).unwrap_or_else(|| panic!("{path} is not there, or is not text"))
 }
 
-/// The paths of the repository's files from the root, in order, without what is built and what git
-/// keeps for itself.
+/// The paths of the repository's files from the root, in order, without what is built, here and in
+/// each crate, and what git keeps for itself.
 pub fn files() -> Vec<String> {
     let mut found = Vec::new();
     walk(&repository(), "", &mut found);
     found.sort();
     found
+}
+
+/// Whether a path is a crate's folder, as `crates/words/`.
+fn is_crate(from_root: &str) -> bool {
+    let name = from_root.strip_prefix("crates/");
+    matches!(name.and_then(|name| name.split_once('/')), Some((_, "")))
 }
 
 fn walk(folder: &Path, from_root: &str, found: &mut Vec<String>) {
@@ -63,6 +69,9 @@ fn walk(folder: &Path, from_root: &str, found: &mut Vec<String>) {
         let name = entry.file_name().to_string_lossy().into_owned();
         // .git is a file where the checkout is one of several
         if name == ".git" || name == "target" {
+            continue;
+        }
+        if name == "out" && is_crate(from_root) {
             continue;
         }
         let path = format!("{from_root}{name}");

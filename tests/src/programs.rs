@@ -1,4 +1,4 @@
-//! The programs that `rt check` makes, run with bytes on standard input, and C programs that are
+//! The programs that `rt ci` and `rt run` make, run with bytes on standard input, and C programs that are
 //! built with the machine's compilers.
 
 use crate::repository;
@@ -23,7 +23,7 @@ pub fn output_of(program: &Path, input: &[u8]) -> Vec<u8> {
     output.stdout
 }
 
-/// What the program of a crate writes for a file; `rt check CRATE` makes it.
+/// What the program of a crate writes for a file; the gate and tools/program put it there.
 pub fn written_by(program: &str, file: &[u8]) -> Vec<u8> {
     output_of(&repository().join("target/bin").join(program), file)
 }

@@ -217,7 +217,7 @@ fn names() {
     assert_eq!(check(&words(&[variable(2), variable(1)])), (ACCEPTED, 0));
 }
 
-/// The entry where the chain of a label begins (`startOf`).
+/// The entry where the chain of a label begins (`start_of`).
 fn start_of(label: usize, chains: usize) -> usize {
     label * 40_503 % 65_536 * chains / 65_536
 }

@@ -227,12 +227,12 @@ fn input_that_cannot_be_read() {
     assert_eq!(output.stdout, b"file 12 0\n");
 }
 
-/// Its exit status says nothing of this: a program of the kit's cannot choose one.
 #[test]
 fn a_full_device() {
     let full = OpenOptions::new().write(true).open("/dev/full");
-    let (_, said) = listing_into(full.expect("it is there").into(), &file_of(&examples()));
+    let (status, said) = listing_into(full.expect("it is there").into(), &file_of(&examples()));
     assert_eq!(said, NOT_WHOLE);
+    assert!(!status.success(), "{status}");
 }
 
 #[test]

@@ -327,6 +327,21 @@ fn a_frame_that_is_probed_behind_a_test_is_seen() {
     assert_eq!(tested, Some(told.to_string()));
     let moved = probed_behind(["push %rbx", "mov %rdi,%r11"], &["ret"]);
     assert!(moved.is_some());
+    // steps of less than a page touch every page, and larger ones do not
+    let by_steps = |size, step| {
+        let size = format!("sub {size},%r11");
+        let step = format!("sub {step},%rsp");
+        let probe = [PROBE[0], &size, &step, PROBE[3], PROBE[4], "jne 2"];
+        let all = [&probe[..], &["ret"]].concat();
+        let listing = planted(&[("f", &all)]);
+        let function = &listing.functions[0];
+        (probes::probed(function, 0), probes::misplaced(function))
+    };
+    assert_eq!(by_steps("$0x9000", "$0xc00"), (Some(0x9000), None));
+    for (size, step) in [("$0xa000", "$0x2000"), ("$0x9000", "$0xd00")] {
+        let (size, told) = by_steps(size, step);
+        assert!(size.is_none() && told.is_some());
+    }
     let unlike = ["mov %rsp,%rax", "cmp %rax,%rsp", "ret"];
     let unlike = probes::misplaced(&planted(&[("f", &unlike)]).functions[0]);
     let told = "f: 1: a frame is made in a way that is not understood";

@@ -8,33 +8,51 @@ mod job;
 mod parts;
 mod variables;
 
-use libc::{STDERR_FILENO, STDIN_FILENO, STDOUT_FILENO};
+ghost use Rattle.std.specs.Prelude.{◌≤◌, length};
+
 use lines::LINE_ROOM;
 use parts::JOB_ROOM;
+use std::io::Read;
+use std::process::ExitCode;
 use words::limits::MOST_BYTES;
 
+// Reads standard input into the row until it is full, the input ends or a read fails, and returns how many bytes were read.
+fn read_input(rt: &HostRuntime, file: &mut [u8]) -> usize
+    ensures { result ≤ length file.new }
+{
+    let mut input = rt.stdin();
+    let mut size = 0;
+    while size < file.len() {
+        match input.read(&mut file[size..]) {
+            Ok(0) | Err(_) => return size,
+            Ok(count) => size += count,
+        }
+    }
+    size
+}
+
 // Writes the first line, and says whether all of it was written.
-fn write_first_line(file: &[u8]) -> bool {
+fn write_first_line(rt: &HostRuntime, file: &[u8]) -> bool {
     let mut line = [0u8; LINE_ROOM];
     let size = parts::first_line(file, &mut line);
-    io::write_all(STDOUT_FILENO, &line[..size])
+    rt.write_all(&line[..size]).is_ok()
 }
 
 // The same for the lines of the job of a number.
-fn write_job(file: &[u8], job: usize) -> bool {
+fn write_job(rt: &HostRuntime, file: &[u8], job: usize) -> bool {
     let mut lines = [0u8; JOB_ROOM];
     let size = parts::job_lines(file, job, &mut lines);
-    io::write_all(STDOUT_FILENO, &lines[..size])
+    rt.write_all(&lines[..size]).is_ok()
 }
 
 // The same for the whole listing, part after part. It stops at the first part that was not written to its end.
-fn write_listing(file: &[u8]) -> bool {
-    if !write_first_line(file) {
+fn write_listing(rt: &HostRuntime, file: &[u8]) -> bool {
+    if !write_first_line(rt, file) {
         return false;
     }
     let jobs = parts::jobs(file);
     for job in 1..=jobs {
-        if !write_job(file, job) {
+        if !write_job(rt, file, job) {
             return false;
         }
     }
@@ -42,13 +60,12 @@ fn write_listing(file: &[u8]) -> bool {
 }
 
 // A file has at most 32,768 bytes; one byte more is read, so that a longer one is refused and not cut short.
-fn main() {
+fn main(rt: HostRuntime) -> ExitCode {
     let mut file = [0u8; MOST_BYTES + 1];
-    let size = io::read_full(STDIN_FILENO, &mut file);
-    if !write_listing(&file[..size]) {
-        io::write_all(
-            STDERR_FILENO,
-            b"station-listing: the listing was not written to its end\n",
-        );
+    let size = read_input(&rt, &mut file);
+    if write_listing(&rt, &file[..size]) {
+        return ExitCode::SUCCESS;
     }
+    let _ = rt.eprint("station-listing: the listing was not written to its end\n");
+    ExitCode::FAILURE
 }

@@ -1,5 +1,6 @@
-// What the host program calls, in C's plain numbers and lent rows: a job out of a job file, a match and a table check on
-// lent buffers, and the writer and the reader of job files. The work is done by the crates before it, so that this one is proved in seconds.
+// The five entries that a host program calls, in C's plain numbers and lent rows: a job out of a job file, a match and a table
+// check on lent buffers, and the writer and the reader of job files. The work is done by the crates before it, so that this one
+// is proved in seconds. Crate station_c exports them to C under the same names, with the same clauses.
 //
 // No entry asks anything of its caller. A definition (`HostOf` and `SizesOf` of crate host, and those of specs/) says for each
 // what it returns and what it leaves in the rows that it is lent, and a theorem of proofs/Theorems.antt that it says so of one
@@ -15,16 +16,14 @@ ghost use Rattle.station.specs.Entries.{LentOf, CheckedOf, WrittenOf};
 // 12, 13 and 14 are the file's, 15 is for a number that no job has, 1 is for its table's size, and 2 for room under 6 + 2n
 // bytes: these six write nothing. Any other answer leaves in the room answer, place, joins and the n class entries, 2 bytes
 // each, and the bytes after them as they were.
-#[unsafe(no_mangle)]
-pub extern "C" fn station_match(file: &[u8], job: u32, room: &mut [u8]) -> u16
+pub fn station_match(file: &[u8], job: u32, room: &mut [u8]) -> u16
     ensures { HostOf file.now job room.old result room.new }
 {
     host::match_job(file, job, room)
 }
 
 // Answer + 65,536 x place + 4,294,967,296 x joins of a match on lent buffers.
-#[unsafe(no_mangle)]
-pub extern "C" fn station_lent(
+pub fn station_lent(
     table: &[u32],
     list: &[u16],
     class: &mut [u16],
@@ -36,16 +35,14 @@ pub extern "C" fn station_lent(
 }
 
 // The same of the table check by itself. Its joins is 0.
-#[unsafe(no_mangle)]
-pub extern "C" fn station_check(table: &[u32], class: &mut [u16], work: &mut [u16]) -> u64
+pub fn station_check(table: &[u32], class: &mut [u16], work: &mut [u16]) -> u64
     ensures { CheckedOf table.now class.old work.old result class.new work.new }
 {
     host::checked::as_one(checker::check(table, class, work))
 }
 
 // The writer's number.
-#[unsafe(no_mangle)]
-pub extern "C" fn station_write(sizes: &[u16], bodies: &[u8], room: &mut [u8]) -> u16
+pub fn station_write(sizes: &[u16], bodies: &[u8], room: &mut [u8]) -> u16
     ensures { WrittenOf sizes.now bodies.now room.old result room.new }
 {
     jobfile::answers::write_number(jobfile::write(sizes, bodies, room))
@@ -55,8 +52,7 @@ pub extern "C" fn station_write(sizes: &[u16], bodies: &[u8], room: &mut [u8]) -
 //
 // 12, 13 and 14 are the file's, and 2 is for room for fewer than 2J sizes: these four write nothing, and their J is 0. On 0 the
 // first 2J entries are n, p, n, p, .., and the entries after them as they were.
-#[unsafe(no_mangle)]
-pub extern "C" fn station_read(file: &[u8], sizes: &mut [u16]) -> u64
+pub fn station_read(file: &[u8], sizes: &mut [u16]) -> u64
     ensures { SizesOf file.now sizes.old result sizes.new }
 {
     host::read_sizes(file, sizes)

@@ -30,7 +30,7 @@ pub fn of_library() -> Listing {
     of_file(&repository().join("target/staticlib/libstation.a"))
 }
 
-/// The code of a program that `rt check` makes.
+/// The code of a program, as the gate and tools/program put it there.
 pub fn of_program(name: &str) -> Listing {
     of_file(&repository().join("target/bin").join(name))
 }

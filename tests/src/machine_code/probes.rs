@@ -1,10 +1,10 @@
-//! A frame of many pages is made page by page in a loop, so that each page is touched. The loop keeps its
+//! A frame of many pages is made step by step in a loop, so that each page is touched. The loop keeps its
 //! end in a register that the compiler's back end takes for free. Where the frame is made at the very start
 //! it is free; where tests stand before it, it may hold a value of theirs, which is then lost.
 
 use super::listing::{Function, Instruction};
 
-/// The page that each step of the loop makes and touches.
+/// A page. Each step of the loop makes and touches as much, or less.
 const PAGE: u64 = 0x1000;
 
 /// How many instructions the loop has, with the two before it that find its end.
@@ -21,18 +21,20 @@ pub fn probed(function: &Function, i: usize) -> Option<u64> {
         let instruction: &Instruction = &all[k];
         instruction.mnemonic == mnemonic && instruction.operands == operands
     };
-    let page = format!("$0x{PAGE:x}");
+    let step = number(all[2].operands.first()?)?;
+    let by_step = format!("$0x{step:x}");
     let end = all[0].operands.get(1)?.as_str();
     let size = number(all[1].operands.first()?)?;
     let by_size = format!("$0x{size:x}");
     let looks_so = is(0, "mov", ["%rsp", end])
         && is(1, "sub", [&by_size, end])
-        && is(2, "sub", [&page, "%rsp"])
+        && is(2, "sub", [&by_step, "%rsp"])
         && is(3, "movq", ["$0x0", "(%rsp)"])
         && is(4, "cmp", [end, "%rsp"])
         && all[5].mnemonic == "jne"
         && all[5].leads_to() == Some(all[2].at);
-    (looks_so && size > 0 && size % PAGE == 0).then_some(size)
+    let reaches = step > 0 && step <= PAGE && size > 0 && size % step == 0;
+    (looks_so && reaches).then_some(size)
 }
 
 fn compares_the_stack_pointer(instruction: &Instruction) -> bool {

@@ -4,7 +4,7 @@ use Rattle.lines.proofs.LineLaws.{copied_front}
 use Rattle.again.proofs.written.put_refusal.Goals as goal
 
 pub copy8-requires : goal.copy8-requires
-copy8-requires c = omega (arith, c.file_line-size.ensures.1.1, c.file_line-size.ensures.0.1, c.requires)
+copy8-requires c = omega (arith, c.file_line-size.ensures.upper_bound, c.file_line-size.ensures.counts.1, c.requires)
 
 pub returns : goal.returns
-returns c = (copied_front c.file_line-size.ensures.1.0 c.copy8.ensures, c.file_line-size.ensures.1.1)
+returns c = (copied_front c.file_line-size.ensures.line_in c.copy8.ensures, c.file_line-size.ensures.upper_bound)
