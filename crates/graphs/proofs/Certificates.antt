@@ -5,7 +5,7 @@
 -- that there is no cycle; a sound row shows a clash and a cycle. Assumes nothing.
 use mathlib.Core.Path.{◌≡◌, refl, sym, ap, ◌∙◌, subst}
 use mathlib.Core.Logic.{⊎_elim}
-use mathlib.Core.Bool.{true, decide}
+use mathlib.Core.Bool.{true}
 use mathlib.Core.List.Memᴰ
 use mathlib.Core.List.{List, [], ◌∷◌}
 use Prim.Native.Nat.{ℕ, zero, suc, ◌+◌, ◌≤◌, ◌<◌}
@@ -14,7 +14,7 @@ use borrow.Author.Tests.{ltb-true, eqb-true}
 use lib.ListN.{length, get_or}
 use Rattle.graphs.specs.Graph.{Symbols, Head, nothing, variable, symbol, Graph, Node, variable_node, symbol_node, Child, Steps, one, more, WellFormed}
 use Rattle.graphs.specs.Partition.{Pair, ◌∈◌, Sides, Same, itself, Clash, ClassStep, Cycle, Named, by_non_variable, by_variable, entry, ClassTable, key_of, key}
-use Rattle.graphs.specs.Log.{children, together, holds_pairs, same_names, agrees_with, agrees, closed, ranks_fall, ranks_fall_at, ranked, differ_from, differ, clashes, Down, is_among, is_below, leads, cycles, leads_down, loops}
+use Rattle.graphs.specs.Log.{holds_pairs, same_names, agrees_with, agrees, closed, ranks_fall, ranks_fall_at, ranked, differ_from, differ, clashes, Down, is_among, is_below, leads, cycles, leads_down, loops}
 use Rattle.graphs.proofs.Classes.{never, same_labels, same_nodes}
 use Rattle.graphs.proofs.Replay.{both_true, either_true, decide_true, decide-not, all_below_lem, Sound, one_entry_same, together_same}
 

@@ -1,7 +1,7 @@
 -- What the reader yields, by its answer. In order: what is told of a refusal (`NotGood`, `by_refusal`); the row of sizes
 -- (`yield_sizes`, `yield_no_sizes`); the bodies (`yield_bodies`, `yield_no_bodies`). Assumes nothing.
 use mathlib.Core.Path.{◌≡◌, refl, sym, ap, ◌∙◌}
-use mathlib.Core.List.{List, [], ◌∷◌, ◌++◌}
+use mathlib.Core.List.{List, [], ◌++◌}
 use Prim.Native.Nat.{ℕ, ◌+◌, ◌-◌, ◌*◌, ◌≤◌}
 use native.Mathlib.Omega.{arith}
 use lib.ListN.{length, take, drop, replicate, length-replicate, replicate-append-replicate}

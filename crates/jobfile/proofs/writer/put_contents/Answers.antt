@@ -1,7 +1,5 @@
 -- `jobfile::writer::put_contents` meets its contract.
 -- Assumes nothing.
-use mathlib.Core.Path.{◌∙◌}
-use Prim.Native.Nat.{◌-◌}
 use native.Mathlib.Omega.{arith}
 use Rattle.jobfile.proofs.WriterLaws.{writing_none, writing_more, writing_all}
 use Rattle.jobfile.proofs.writer.put_contents.Goals as goal

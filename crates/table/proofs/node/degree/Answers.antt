@@ -1,8 +1,6 @@
 -- `table::node::degree` meets its contract. Assumes nothing.
-use mathlib.Core.List.{[], ◌∷◌}
 use mathlib.Core.Path.{sym, refl, ◌∙◌}
 use native.Mathlib.Omega.{arith}
-use Rattle.words.specs.declared.kind.Kind.TheVariants.{Function}
 use Rattle.table.specs.Table.{degree}
 use Rattle.table.proofs.Readable.{block_inside}
 use Rattle.table.proofs.Leaves.{picked, passed}

@@ -1,8 +1,6 @@
 -- `table::node::head` meets its contract: one case a branch. Assumes nothing.
-use mathlib.Core.List.{[], ◌∷◌}
 use mathlib.Core.Path.{sym, ap, ◌∙◌}
 use native.Mathlib.Omega.{arith}
-use Rattle.words.specs.declared.kind.Kind.TheVariants.{Constant, Function}
 use Rattle.words.specs.declared.head.Head.{Head}
 use Rattle.table.specs.Heads.{top}
 use Rattle.table.proofs.Readable.{block_inside}

@@ -1,5 +1,4 @@
 -- `table::node::is_function` meets its contract. Assumes nothing.
-use mathlib.Core.List.{[], ◌∷◌}
 use mathlib.Core.Path.{sym, ap, ◌∙◌}
 use Rattle.words.specs.Word.{same_kind}
 use Rattle.words.specs.declared.kind.Kind.{Kind}

@@ -1,7 +1,5 @@
 -- `table::node::named_at` meets its contract. Assumes nothing.
-use mathlib.Core.List.{[], ◌∷◌}
 use mathlib.Core.Path.{refl}
-use Rattle.words.specs.declared.kind.Kind.TheVariants.{Pointer}
 use Rattle.table.specs.Table.{named}
 use Rattle.table.proofs.Leaves.{picked, passed}
 use Rattle.table.proofs.node.named_at.Goals as goal
