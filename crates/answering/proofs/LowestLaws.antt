@@ -1,7 +1,7 @@
 -- The lowest number with a property, and the first that passes a test: there is one (`lowest_only`, `first_only`), the one is the
 -- other (`first_lowest`), and where there is none nothing passes (`first_none`, `none_at_all`). Assumes nothing.
 use mathlib.Core.Path.{◌≡◌, sym, ◌∙◌}
-use mathlib.Core.Bool.{Bool, true, false, true≢false}
+use mathlib.Core.Bool.{Bool, true, true≢false}
 use Prim.Native.Nat.{ℕ, zero, suc, ◌≤◌, ◌<◌}
 use native.Mathlib.Decide.{dec_lt}
 use native.Mathlib.Omega.{arith}

@@ -47,7 +47,7 @@ module _ {t : List ℕ} {pairs : List Pair} (checked : PassedCheck t) (sides : S
         record {
           links = λ x n. sym (flat x (checked.well_formed.inside x n));
           waiting = λ k i h. absurd (omega arith);
-          owed = λ p m. absurd (Memᴰ.not_nil m);
+          owed = λ p m. absurd (Memᴰ.not-nil m);
         }
 
     child_entry : (x : ℕ) {s : TableSymbols.Symbol} {xs : List ℕ} → (graph_of t).head x ≡ symbol s xs → (i : ℕ) → i < length xs
@@ -211,7 +211,7 @@ module _ {t : List ℕ} (row work : List ℕ) {earlier : List Pair} (checked : P
       }
 
   start_within : Within t earlier (config row work 0 [])
-  start_within = record { links = same_at; waiting = λ k h. absurd (omega arith); owed = λ p m. absurd (Memᴰ.not_nil m) }
+  start_within = record { links = same_at; waiting = λ k h. absurd (omega arith); owed = λ p m. absurd (Memᴰ.not-nil m) }
 
   -- nodes that are together have one label
   label_at : (q : ℕ → ℕ) → Agrees t (config row work 0 []) q → {x y : ℕ} → Same (graph_of t) earlier x y → q x ≡ q y

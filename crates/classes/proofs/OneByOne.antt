@@ -69,7 +69,7 @@ module _ (earlier pairs : List Pair) (i : ℕ) (inside : i < length pairs) where
         }
 
     rests : (q : ℕ → ℕ) → Agrees t (record { row = row; work = work; waiting = 0; owed = pair_at pairs i ∷ [] }) q → Agrees t (resting row work) q
-    rests q a = record { links = a.links; waiting = λ k j h b. absurd (omega arith); owed = λ p m. absurd (Memᴰ.not_nil m) }
+    rests q a = record { links = a.links; waiting = λ k j h b. absurd (omega arith); owed = λ p m. absurd (Memᴰ.not-nil m) }
 
     more_complete : Complete t (earlier ++ take (i + 1) pairs) (record { row = row; work = work; waiting = 0; owed = pair_at pairs i ∷ [] })
     more_complete =

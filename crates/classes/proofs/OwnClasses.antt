@@ -40,11 +40,11 @@ apart_more t {before} {row} {after} {x} {v} {b} built h e f g =
 
 module _ {S : Symbols} (G : Graph S) where
   none_sides : Sides G []
-  none_sides p m = absurd (Memᴰ.not_nil m)
+  none_sides p m = absurd (Memᴰ.not-nil m)
 
   none_same : {x y : ℕ} → Same G [] x y → x ≡ y
   none_same =
-      same_labels {G = G} (λ (x : ℕ). x) (λ p m. absurd (Memᴰ.not_nil m))
+      same_labels {G = G} (λ (x : ℕ). x) (λ p m. absurd (Memᴰ.not-nil m))
       (λ x y s xs ys e ex ey i hx hy.
       let heads : G.head x ≡ G.head y = ap G.head e in
       let children : xs ≡ ys = cc in

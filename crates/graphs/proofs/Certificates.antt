@@ -5,7 +5,7 @@
 -- that there is no cycle; a sound row shows a clash and a cycle. Assumes nothing.
 use mathlib.Core.Path.{◌≡◌, refl, sym, ap, ◌∙◌, subst}
 use mathlib.Core.Logic.{⊎_elim}
-use mathlib.Core.Bool.{true, decide}
+use mathlib.Core.Bool.{true}
 use mathlib.Core.List.Memᴰ
 use mathlib.Core.List.{List, [], ◌∷◌}
 use Prim.Native.Nat.{ℕ, zero, suc, ◌+◌, ◌≤◌, ◌<◌}
@@ -14,7 +14,7 @@ use borrow.Author.Tests.{ltb-true, eqb-true}
 use lib.ListN.{length, get_or}
 use Rattle.graphs.specs.Graph.{Symbols, Head, nothing, variable, symbol, Graph, Node, variable_node, symbol_node, Child, Steps, one, more, WellFormed}
 use Rattle.graphs.specs.Partition.{Pair, ◌∈◌, Sides, Same, itself, Clash, ClassStep, Cycle, Named, by_non_variable, by_variable, entry, ClassTable, key_of, key}
-use Rattle.graphs.specs.Log.{children, together, holds_pairs, same_names, agrees_with, agrees, closed, ranks_fall, ranks_fall_at, ranked, differ_from, differ, clashes, Down, is_among, is_below, leads, cycles, leads_down, loops}
+use Rattle.graphs.specs.Log.{holds_pairs, same_names, agrees_with, agrees, closed, ranks_fall, ranks_fall_at, ranked, differ_from, differ, clashes, Down, is_among, is_below, leads, cycles, leads_down, loops}
 use Rattle.graphs.proofs.Classes.{never, same_labels, same_nodes}
 use Rattle.graphs.proofs.Replay.{both_true, either_true, decide_true, decide-not, all_below_lem, Sound, one_entry_same, together_same}
 
@@ -117,13 +117,13 @@ module _ {S : Symbols} {G : Graph S} {pairs : List Pair} (wf : WellFormed G) (si
 
   -- ---- a closed row
 
-  holds_pairs_lem : (row : List ℕ) {few : List Pair} → holds_pairs few row ≡ true → (p : Pair) → p ∈ few → entry row p.left ≡ entry row p.right
+  holds_pairs_lem : (row : List ℕ) (p : Pair) {few : List Pair} → holds_pairs few row ≡ true → p ∈ few → entry row p.left ≡ entry row p.right
   unfolding holds_pairs
-  holds_pairs_lem row e p (Memᴰ.head {x = q} {xs = rest} same) =
+  holds_pairs_lem row p e (Memᴰ.head {x = q} {xs = rest} same) =
       ap (λ (u : Pair). entry row u.left) same
       ∙ eqb-true (entry row q.left) (entry row q.right) (both_true e).0
       ∙ sym (ap (λ (u : Pair). entry row u.right) same)
-  holds_pairs_lem row e p (Memᴰ.tail {x = q} {xs = rest} m) = holds_pairs_lem row (both_true e).1 p m
+  holds_pairs_lem row p e (Memᴰ.tail {x = q} {xs = rest} m) = holds_pairs_lem row p (both_true e).1 m
 
   same_names_lem : (row xs ys : List ℕ) → same_names row xs ys ≡ true → (i : ℕ) → i < length xs → entry row (get_or xs i 0) ≡ entry row (get_or ys i 0)
   unfolding same_names
@@ -150,7 +150,7 @@ module _ {S : Symbols} {G : Graph S} {pairs : List Pair} (wf : WellFormed G) (si
     one_name_lem : {x y : ℕ} → Same G pairs x y → entry row x ≡ entry row y
     unfolding closed
     one_name_lem =
-        same_labels {G = G} (entry row) (holds_pairs_lem row (both_true shut).0)
+        same_labels {G = G} (entry row) (λ p m. holds_pairs_lem row p (both_true shut).0 m)
         (λ x y s xs ys e ex ey i hx hy.
         let nx : (zs : List ℕ) × (G.head (entry row x) ≡ symbol s zs) × (same_names row xs zs ≡ true) = as_name ex in
         let ny : (zs : List ℕ) × (G.head (entry row y) ≡ symbol s zs) × (same_names row ys zs ≡ true) = as_name ey in

@@ -120,7 +120,7 @@ pub cycle_grows : {S : Symbols} {G : Graph S} {few many : List Pair} → ((p : P
 cycle_grows sub c = (c.0, steps_map (class_step_grows sub) c.1)
 
 pub first_pairs_grow : (j k : ℕ) (pairs : List Pair) → j ≤ k → (p : Pair) → p ∈ take j pairs → p ∈ take k pairs
-first_pairs_grow zero k pairs h p m = absurd (Memᴰ.not_nil m)
+first_pairs_grow zero k pairs h p m = absurd (Memᴰ.not-nil m)
 first_pairs_grow (suc j) zero pairs h p m = absurd (omega arith)
 first_pairs_grow (suc j) (suc k) [] h p m = m
 first_pairs_grow (suc j) (suc k) (q ∷ pairs) h p m =

@@ -13,7 +13,7 @@ use native.Mathlib.Nat.{add-zero}
 use borrow.Author.Tests.{ltb-true, leb-true, leb-false, eqb-true, eqb-false, ne_eqb}
 use lib.Dec.{eqb, leb, ltb}
 use lib.ListN.{length, get_or, length-map, get_or-map, get_or-eq_default}
-use Rattle.graphs.specs.Graph.{Symbols, Head, nothing, variable, symbol, Graph, Node, variable_node, symbol_node, one, WellFormed}
+use Rattle.graphs.specs.Graph.{Symbols, Head, nothing, variable, symbol, Graph, Node, variable_node, symbol_node, WellFormed}
 use Rattle.graphs.specs.Partition.{Pair, ◌∈◌, Sides, Same, itself, swapped, through, paired, placed, entry, is_node, key, apart_from, apart}
 use Rattle.graphs.specs.Log.{◌and◌, ◌or◌, Ground, given, children, Join, either_way, counts, children_beside, children_of, together, grounded, is_true, renamed, merged, joined, ends, if_true, replay_from, replay, all_below}
 use Rattle.graphs.proofs.Classes.{never, same_nodes}

@@ -75,10 +75,10 @@ unifier_no_cycle = unifiers.unifier_no_cycle
 
 -- With no pairs there is neither: every replacement will do.
 pub no_pairs_no_clash : {S : Symbols} {G : Graph S} → WellFormed G → Clash G [] → ⊥
-no_pairs_no_clash wf = unifier_no_clash wf var (λ p m. absurd (Memᴰ.not_nil m))
+no_pairs_no_clash wf = unifier_no_clash wf var (λ p m. absurd (Memᴰ.not-nil m))
 
 pub no_pairs_no_cycle : {S : Symbols} {G : Graph S} → WellFormed G → Cycle G [] → ⊥
-no_pairs_no_cycle wf = unifier_no_cycle wf var (λ p m. absurd (Memᴰ.not_nil m))
+no_pairs_no_cycle wf = unifier_no_cycle wf var (λ p m. absurd (Memᴰ.not-nil m))
 
 -- The term below a node, without its depth.
 pub below_unfolds : {S : Symbols} {G : Graph S} → WellFormed G → (x : ℕ) → Node G x → below G x ≡ grown (below G) x (G.head x)

@@ -1,11 +1,9 @@
 -- What the reader yields, by its answer. In order: what is told of a refusal (`NotGood`, `by_refusal`); the row of sizes
 -- (`yield_sizes`, `yield_no_sizes`); the bodies (`yield_bodies`, `yield_no_bodies`). Assumes nothing.
 use mathlib.Core.Path.{◌≡◌, refl, sym, ap, ◌∙◌}
-use mathlib.Core.List.{List, [], ◌∷◌, ◌++◌}
+use mathlib.Core.List.{List, [], ◌++◌}
 use Prim.Native.Nat.{ℕ, ◌+◌, ◌-◌, ◌*◌, ◌≤◌}
 use native.Mathlib.Omega.{arith}
-use types.Run.{OneOf, miss}
-use denote.Enum.Declared.{tag_of}
 use lib.ListN.{length, take, drop, replicate, length-replicate, replicate-append-replicate}
 use lib.Seq.{drop_at}
 use Rattle.words.specs.Limits.{most_jobs, most_sizes}
@@ -15,18 +13,17 @@ use Rattle.jobfile.specs.declared.answers.EntryNumber.{EntryNumber}
 use Rattle.jobfile.specs.declared.answers.FileAnswer.{FileAnswer}
 use Rattle.jobfile.specs.declared.answers.FileAnswer.TheVariants.{Good, File, Contents, Body}
 use Rattle.jobfile.specs.declared.sizes.Sizes.{Sizes}
-use Rattle.jobfile.specs.contracts.answers.FileAnswer.{the_type}
 use Rattle.jobfile.proofs.NumberLaws.{to_the_end}
 use Rattle.jobfile.proofs.FileLaws.{length-sizes_from}
 
--- what is told where the branch for `Good` is not taken: the answer is case 1, 2 or 3, counted from 0
+-- what is told where the branch for `Good` is not taken
 abbrev pub NotGood : FileAnswer → Type 0
-NotGood r = OneOf (1 ∷ 2 ∷ 3 ∷ []) (tag_of the_type r)
+NotGood r = r ≡ Good → ⊥
 
 -- what all refusals yield is then yielded
 by_refusal : {A : Type 0} {x : A} (yielded : FileAnswer → A) (r : FileAnswer) → NotGood r
     → yielded File ≡ x → yielded Contents ≡ x → ((entry : EntryNumber) → yielded (Body entry) ≡ x) → yielded r ≡ x
-by_refusal yielded Good told f c b = absurd (miss (1 ∷ 2 ∷ 3 ∷ []) 0 tt told)
+by_refusal yielded Good told f c b = absurd (told refl)
 by_refusal yielded File told f c b = f
 by_refusal yielded Contents told f c b = c
 by_refusal yielded (Body entry) told f c b = b entry

@@ -1,6 +1,6 @@
 -- What the writer answers, and what it leaves in the room. The sentences quoted are document 01's, "The job file".
 -- Assumes nothing.
-use Rattle.std.specs.Prelude.{◌≡◌, List, ◌++◌, ℕ, ◌+◌, length, drop}
+use Rattle.std.specs.Prelude.{◌≡◌, List, ◌++◌, ℕ, length, drop}
 use Rattle.answering.specs.Answers.{Answered}
 use Rattle.jobfile.specs.File.{file_of}
 use Rattle.jobfile.specs.Faults.{file_number, WriteFault, write_order}

@@ -66,7 +66,7 @@ module _ {t list class work class_apart : List ℕ} {k : ℕ} (s : Standing t li
         passed = s.ready.passed;
         class_room = omega (arith, s.ready.class_enough, long);
         work_enough = omega (arith, s.ready.work_enough);
-        earlier_sides = λ p m. absurd (Memᴰ.not_nil m);
+        earlier_sides = λ p m. absurd (Memᴰ.not-nil m);
         class_table = apart_front t class_apart (drop (length t) class) s.ready.passed.well_formed apart_row;
         no_clash = no_pairs_no_clash s.ready.passed.well_formed;
         sides = subst (Sides (graph_of t)) (sym (pairs_of-take list k)) (first_sides s.ready.sides k inside);

@@ -58,9 +58,9 @@ class_of e = replicate (length e.table) 0
 abbrev work_of : Example → List ℕ
 work_of e = replicate (4 * length e.table) 0
 
-fit_lent : (es : List Example) → fit es ≡ true → (e : Example) → Memᴰ e es → Lendable e.table e.list (class_of e) (work_of e)
+fit_lent : (e : Example) (es : List Example) → fit es ≡ true → Memᴰ e es → Lendable e.table e.list (class_of e) (work_of e)
 unfolding fit
-fit_lent es t e (Memᴰ.head {x = f} {xs = rest} q) =
+fit_lent e es t (Memᴰ.head {x = f} {xs = rest} q) =
     subst (λ (g : Example). Lendable g.table g.list (class_of g) (work_of g)) (sym q)
     (record {
       words = all_under_lem 4294967296 f.table (both_true (both_true t).0).0;
@@ -68,12 +68,12 @@ fit_lent es t e (Memᴰ.head {x = f} {xs = rest} q) =
       class_entries = zeros_under 65536 (length f.table) (omega arith);
       work_entries = zeros_under 65536 (4 * length f.table) (omega arith);
     })
-fit_lent es t e (Memᴰ.tail {x = f} {xs = rest} m) = fit_lent rest (both_true t).1 e m
+fit_lent e es t (Memᴰ.tail {x = f} {xs = rest} m) = fit_lent e rest (both_true t).1 m
 
 -- every row of the sheet can be lent
 row_lent : (e : Example) → Memᴰ e examples → Lendable e.table e.list (class_of e) (work_of e)
 unfolding fit all_under all_below ◌and◌
-row_lent = fit_lent examples refl
+row_lent e m = fit_lent e examples refl m
 
 abbrev run : Matcher → Example → Matched × List ℕ × List ℕ
 run m e = m e.table e.list (class_of e) (work_of e)

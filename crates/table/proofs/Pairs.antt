@@ -57,10 +57,10 @@ pub pair_at_entries : (list : List ℕ) (k : ℕ) → k < length (pairs_of list)
 pair_at_entries list k h = λ i. record { left = pair_at-left list k h i; right = pair_at-right list k h i }
 
 -- Every pair stands at some place.
-pub pair_place : {pairs : List Pair} {p : Pair} → p ∈ pairs → (k : ℕ) × (k < length pairs) × (pair_at pairs k ≡ p)
-pair_place {p} (Memᴰ.head {x = q} {xs = rest} e) = (0, (omega arith), sym e)
-pair_place {p} (Memᴰ.tail {x = q} {xs = rest} m) =
-    let found : (k : ℕ) × (k < length rest) × (pair_at rest k ≡ p) = pair_place m in
+pub pair_place : {p : Pair} {pairs : List Pair} → p ∈ pairs → (k : ℕ) × (k < length pairs) × (pair_at pairs k ≡ p)
+pair_place {p = p} (Memᴰ.head {x = q} {xs = rest} e) = (0, (omega arith), sym e)
+pair_place {p = p} (Memᴰ.tail {x = q} {xs = rest} m) =
+    let found : (k : ℕ) × (k < length rest) × (pair_at rest k ≡ p) = pair_place {p = p} m in
     (suc found.0, (let h : found.0 < length rest = found.1 in omega arith), found.2)
 
 -- ---- the list so far

@@ -18,4 +18,4 @@ pub returns-then-work-n : goal.returns-then-work-n
 returns-then-work-n c = check_room _ _ _ (omega arith) (omega arith) (inr c.if-work-n.true)
 
 pub returns : goal.returns
-returns c = check_faults _ _ _ (record { some_word = omega arith; small = omega arith; class-enough = omega arith; work-enough = omega arith }) c.faults-answer.ensures c.clear16.ensures c.clear16-2.ensures
+returns c = check_faults _ _ _ (record { some_word = omega arith; small = omega arith; class_enough = omega arith; work_enough = omega arith }) c.faults-answer.ensures c.clear16.ensures c.clear16-2.ensures

@@ -1,5 +1,5 @@
 -- What the reader's own functions promise each other. Assumes nothing.
-use Rattle.std.specs.Prelude.{◌≡◌, List, [], ◌∷◌, ℕ, ◌-◌, ◌≤◌, length}
+use Rattle.std.specs.Prelude.{◌≡◌, List, [], ◌∷◌, ℕ, ◌≤◌, length}
 use Rattle.words.specs.Limits.{most_bytes, most_jobs}
 use Rattle.answering.specs.Answers.{Answered}
 use Rattle.jobfile.specs.File.{contents_end, count_in}

@@ -10,4 +10,4 @@ returns c = let one = line_first c.put_field-second.ensures.0 c.put_field-second
     let two = line_more (field c.args.answer SPACE) one c.put_field-third.ensures.0 c.put_field-third.ensures.2 in
     let three = line_more (field c.args.place SPACE) two c.put_field-last.ensures.0 c.put_field-last.ensures.2 in
     let all = line_more (field c.args.joins NEWLINE) three c.put_field.ensures.0 c.put_field.ensures.2 in
-    (line_counts c.put_field.result c.put_field.new.0 (omega arith), (all, omega arith))
+    record { counts = line_counts c.put_field.result c.put_field.new.row (omega arith); line_in = all; upper_bound = omega arith }

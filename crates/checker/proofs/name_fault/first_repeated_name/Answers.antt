@@ -18,7 +18,7 @@ pub returns-then-repeats_name : goal.returns-then-repeats_name
 returns-then-repeats_name c = answer_here c.begin_chains.ensures.stays c.loop-at.invariant c.repeats_name.ensures c.if-repeats_name.true
 
 pub shape_of-work-then-repeats_name : goal.shape_of-work-then-repeats_name
-shape_of-work-then-repeats_name c = (returns c).stays.same_length
+shape_of-work-then-repeats_name c = (answer_here c.begin_chains.ensures.stays c.loop-at.invariant c.repeats_name.ensures c.if-repeats_name.true).stays.same_length
 
 pub loop-at-preserved : goal.loop-at-preserved
 loop-at-preserved c = none_more c.loop-at.invariant c.loop-at-test.true c.repeats_name.ensures c.if-repeats_name.false
@@ -27,4 +27,4 @@ pub returns : goal.returns
 returns c = answer_nowhere c.begin_chains.ensures.stays c.loop-at.invariant c.loop-at-test.false
 
 pub shape_of-work : goal.shape_of-work
-shape_of-work c = (returns-2 c).stays.same_length
+shape_of-work c = (answer_nowhere c.begin_chains.ensures.stays c.loop-at.invariant c.loop-at-test.false).stays.same_length

@@ -17,7 +17,7 @@ pub returns-then-not-is_sound_argument : goal.returns-then-not-is_sound_argument
 returns-then-not-is_sound_argument c = arguments_stop c.loop-at.invariant c.is_sound_argument.ensures
 
 pub shape_of-work-then-not-is_sound_argument : goal.shape_of-work-then-not-is_sound_argument
-shape_of-work-then-not-is_sound_argument c = (returns c).stays.same_length
+shape_of-work-then-not-is_sound_argument c = (arguments_stop c.loop-at.invariant c.is_sound_argument.ensures).stays.same_length
 
 pub loop-at-preserved : goal.loop-at-preserved
 loop-at-preserved c = arguments_more c.loop-at.invariant c.is_sound_argument.ensures c.requires.1 c.loop-at-test.true c.requires.3 (not-false _ c.if-not-is_sound_argument.false-raw)
@@ -26,4 +26,4 @@ pub returns : goal.returns
 returns c = arguments_all c.loop-at.invariant c.loop-at-test.false
 
 pub shape_of-work : goal.shape_of-work
-shape_of-work c = (returns-2 c).stays.same_length
+shape_of-work c = (arguments_all c.loop-at.invariant c.loop-at-test.false).stays.same_length

@@ -21,7 +21,7 @@ pub returns-then-at-eq-NOWHERE : goal.returns-then-at-eq-NOWHERE
 returns-then-at-eq-NOWHERE c = unsound_table (stays_on c.begin_chains.ensures.stays (stays_on c.loop-at.invariant.stays c.after_item-at.ensures.stays))
 
 pub shape_of-work-then-at-eq-NOWHERE : goal.shape_of-work-then-at-eq-NOWHERE
-shape_of-work-then-at-eq-NOWHERE c = (returns-2 c).stays.same_length
+shape_of-work-then-at-eq-NOWHERE c = (stays_on c.begin_chains.ensures.stays (stays_on c.loop-at.invariant.stays c.after_item-at.ensures.stays)).same_length
 
 pub loop-at-smaller : goal.loop-at-smaller
 loop-at-smaller c = omega (arith, (c.after_item-at.ensures.goes_on c.if-at-eq-NOWHERE.false).0)
@@ -33,4 +33,4 @@ pub returns : goal.returns
 returns c = sound_table c.loop-at.invariant c.begin_chains.ensures.stays c.if-table-ne0.false c.loop-at-test.false
 
 pub shape_of-work : goal.shape_of-work
-shape_of-work c = (returns-3 c).stays.same_length
+shape_of-work c = (sound_table c.loop-at.invariant c.begin_chains.ensures.stays c.if-table-ne0.false c.loop-at-test.false).stays.same_length

@@ -15,23 +15,11 @@ pub join_pair-requires : goal.join_pair-requires
 join_pair-requires c = let n : _ = side_nodes c.args.table.now c.args.list.now c.requires.2 c.loop-i.i (omega (arith, length-pairs_of_over c.args.list.now)) in
     (c.requires.0, c.loop-i.invariant.state, n.0, n.1)
 
-pub shape_of-class-then-not-join_pair : goal.shape_of-class-then-not-join_pair
-shape_of-class-then-not-join_pair c = omega (arith, c.join_pair.kept.1.0, c.loop-i.invariant.kept.row_long)
-
-pub shape_of-work-then-not-join_pair : goal.shape_of-work-then-not-join_pair
-shape_of-work-then-not-join_pair c = omega (arith, c.join_pair.kept.1.1.0, c.loop-i.invariant.kept.work_long)
-
 pub returns-then-not-join_pair : goal.returns-then-not-join_pair
 returns-then-not-join_pair c = clash_found (clashes_here c.loop-i.invariant (omega (arith, length-pairs_of_over c.args.list.now)) refl refl c.join_pair.ensures c.requires.0 c.requires.2 (not-true _ c.if-not-join_pair.true-raw))
 
 pub loop-i-preserved : goal.loop-i-preserved
 loop-i-preserved c = joins_on c.loop-i.invariant (omega (arith, length-pairs_of_over c.args.list.now)) refl refl c.join_pair.ensures (not-false _ c.if-not-join_pair.false-raw)
-
-pub shape_of-class : goal.shape_of-class
-shape_of-class c = c.loop-i.invariant.kept.row_long
-
-pub shape_of-work : goal.shape_of-work
-shape_of-work c = c.loop-i.invariant.kept.work_long
 
 pub returns : goal.returns
 returns c = all_met c.loop-i.invariant (omega (arith, length-pairs_of c.args.list.now))

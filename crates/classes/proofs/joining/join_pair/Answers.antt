@@ -1,5 +1,6 @@
 -- `classes::joining::join_pair` meets its contract.
 -- Assumes nothing.
+use mathlib.Core.List.{[]}
 use Rattle.classes.specs.Steps.Meeting.{clash_met}
 use Rattle.classes.proofs.Moves.{settled_after, waiting_moved, clash_stops}
 use Rattle.classes.proofs.joining.join_pair.Goals as goal

@@ -23,9 +23,6 @@ pub push-requires : goal.push-requires
 push-requires c = let w : _ = room_to_wait c.requires.0 c.requires.1 c.requires.2 in
     (omega (arith, w, c.requires.1.work_room), omega (arith, w, c.requires.0.readable.small))
 
--- ?? add-t14 : tie.Need-overflow-add-t14
--- add-t14 c = search rules
-
 pub returns-in-Joined : goal.returns-in-Joined
 returns-in-Joined c = λ owed. went_on (joined_moved c.requires.0 c.requires.1 c.requires.2
     (said_at c.requires.0.readable _ _ c.requires.2.name_node c.requires.2.later_node c.head.ensures c.head-2.ensures c.meet.ensures c.in-Joined.is) owed)

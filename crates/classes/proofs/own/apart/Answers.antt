@@ -1,13 +1,12 @@
 -- `classes::own::apart` meets its contract. The loop's invariant is `Built`: the row is made from the front. Assumes nothing.
 use mathlib.Core.Path.{sym, ap}
 use mathlib.Core.Bool.{Bool, cond}
-use mathlib.Core.Logic.{⊎_elim}
 use Prim.Native.Nat.{◌-◌}
 use native.Mathlib.Omega.{arith}
-use borrow.Author.Rules.{rules}
 use Rattle.rows.proofs.Laws.{built_none, built_all}
 use Rattle.classes.proofs.OwnClasses.{apart_long, apart_more}
 use Rattle.classes.proofs.own.apart.Goals as goal
+use Rattle.classes.proofs.own.apart.Goals.{then-is_node_word, else-is_node_word}
 
 pub loop-x-init : goal.loop-x-init
 loop-x-init c = built_none (apart_long c.args.table.now) c.requires.0
@@ -22,13 +21,11 @@ pub bounds-class-x-else-is_node_word : goal.bounds-class-x-else-is_node_word
 bounds-class-x-else-is_node_word c = omega (arith, c.requires.0)
 
 pub loop-x-preserved : goal.loop-x-preserved
-loop-x-preserved c = ⊎_elim
-    (λ w. apart_more c.args.table.now c.loop-x.invariant (search rules) c.is_node_word.ensures (sym (ap (λ (b : Bool). cond b c.loop-x.x 0) w.0.taken)) w.1)
-    (λ w. apart_more c.args.table.now c.loop-x.invariant (search rules) c.is_node_word.ensures (sym (ap (λ (b : Bool). cond b c.loop-x.x 0) w.0.left)) w.1)
-    c.if-is_node_word.branch
-
-pub shape_of-class : goal.shape_of-class
-shape_of-class c = c.loop-x.invariant.same_length
+loop-x-preserved c =
+    elim c.if-is_node_word.branch [
+      then-is_node_word w ↦ apart_more c.args.table.now c.loop-x.invariant c.loop-x-test.true c.is_node_word.ensures (sym (ap (λ (b : Bool). cond b c.loop-x.x 0) w.if-is_node_word.true)) w.class-is
+      | else-is_node_word w ↦ apart_more c.args.table.now c.loop-x.invariant c.loop-x-test.true c.is_node_word.ensures (sym (ap (λ (b : Bool). cond b c.loop-x.x 0) w.if-is_node_word.false)) w.class-is
+    ]
 
 pub returns : goal.returns
 returns c = built_all c.loop-x.invariant c.loop-x-test.false

@@ -1,5 +1,6 @@
 -- `classes::settle::go_down` meets its contract. The loop's invariant: the children before place i have met, and those from i on are
 -- still to meet. Assumes nothing.
+use mathlib.Core.List.{[]}
 use mathlib.Core.Path.{sym, subst}
 use Prim.Native.Nat.{◌-◌}
 use native.Mathlib.Omega.{arith}
@@ -30,12 +31,6 @@ meet-requires c = (
           (child_node _ c.requires.0.well_formed _ _ (omega (arith, c.degree-count.ensures, one_symbol_degree _ c.requires.0.well_formed c.requires.2))),
     )
 
-pub shape_of-class-in_default : goal.shape_of-class-in_default
-shape_of-class-in_default c = omega (arith, c.meet.kept.1.0, (c.loop-i.invariant.moved []).kept.row_long)
-
-pub shape_of-work-in_default : goal.shape_of-work-in_default
-shape_of-work-in_default c = omega (arith, c.meet.kept.1.1.0, (c.loop-i.invariant.moved []).kept.work_long)
-
 pub returns-in_default : goal.returns-in_default
 returns-in_default c = going_stops c.loop-i.invariant (omega (arith, c.degree-count.ensures)) c.child-left.ensures c.child-right.ensures c.meet.ensures c.in_default.is
 
@@ -44,12 +39,6 @@ loop-i-smaller c = omega (arith, c.degree-count.ensures)
 
 pub loop-i-preserved : goal.loop-i-preserved
 loop-i-preserved c = going_on c.loop-i.invariant (omega (arith, c.degree-count.ensures)) c.child-left.ensures c.child-right.ensures c.meet.ensures c.in-Waiting.is
-
-pub shape_of-class : goal.shape_of-class
-shape_of-class c = (c.loop-i.invariant.moved []).kept.row_long
-
-pub shape_of-work : goal.shape_of-work
-shape_of-work c = (c.loop-i.invariant.moved []).kept.work_long
 
 pub returns : goal.returns
 returns c = going_ends c.loop-i.invariant (omega (arith, c.degree-count.ensures))

@@ -1,5 +1,6 @@
 -- `classes::settle::settle` meets its contract. The measure is what is left to do: each pair that goes down either joins two classes
 -- for each pair that it lets wait, or lets none wait. Assumes nothing.
+use mathlib.Core.List.{[]}
 use native.Mathlib.Omega.{arith}
 use Rattle.classes.proofs.Moves.{moved_none}
 use Rattle.classes.proofs.Down.{settling_on, settling_less, settling_stops, settling_ends}
@@ -11,12 +12,6 @@ loop-waits-init c = record { moved = λ owed. moved_none c.requires.1 }
 pub settle_last-requires : goal.settle_last-requires
 settle_last-requires c = (c.requires.0, (c.loop-waits.invariant.moved []).state, c.loop-waits-test.true)
 
-pub shape_of-class-in_default : goal.shape_of-class-in_default
-shape_of-class-in_default c = omega (arith, c.settle_last.kept.1.0, (c.loop-waits.invariant.moved []).kept.row_long)
-
-pub shape_of-work-in_default : goal.shape_of-work-in_default
-shape_of-work-in_default c = omega (arith, c.settle_last.kept.1.1.0, (c.loop-waits.invariant.moved []).kept.work_long)
-
 pub returns-in_default : goal.returns-in_default
 returns-in_default c = settling_stops c.requires.0 c.loop-waits.invariant c.loop-waits-test.true c.settle_last.ensures c.in_default.is
 
@@ -25,12 +20,6 @@ loop-waits-smaller c = settling_less c.requires.0 c.loop-waits.invariant c.loop-
 
 pub loop-waits-preserved : goal.loop-waits-preserved
 loop-waits-preserved c = settling_on c.requires.0 c.loop-waits.invariant c.loop-waits-test.true c.settle_last.ensures c.in-Waiting.is
-
-pub shape_of-class : goal.shape_of-class
-shape_of-class c = (c.loop-waits.invariant.moved []).kept.row_long
-
-pub shape_of-work : goal.shape_of-work
-shape_of-work c = (c.loop-waits.invariant.moved []).kept.work_long
 
 pub returns : goal.returns
 returns c = settling_ends c.loop-waits.invariant c.loop-waits-test.false

@@ -11,17 +11,11 @@ loop-x-init c = swept_none c.requires.1
 pub visit-requires : goal.visit-requires
 visit-requires c = (c.requires.0, c.loop-x.invariant.search, omega arith)
 
-pub shape_of-work-then-visit : goal.shape_of-work-then-visit
-shape_of-work-then-visit c = omega (arith, c.visit.kept.1.1.0, c.loop-x.invariant.grown.long)
-
 pub returns-then-visit : goal.returns-then-visit
 returns-then-visit c = visit_found c.loop-x.invariant (omega arith) c.visit.ensures c.if-visit.true
 
 pub loop-x-preserved : goal.loop-x-preserved
 loop-x-preserved c = visit_passed c.loop-x.invariant (omega arith) c.visit.ensures c.if-visit.false
-
-pub shape_of-work : goal.shape_of-work
-shape_of-work c = c.loop-x.invariant.grown.long
 
 pub returns : goal.returns
 returns c = swept_all c.requires.0 c.loop-x.invariant c.loop-x-test.false

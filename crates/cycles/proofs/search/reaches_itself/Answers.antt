@@ -4,7 +4,7 @@ use Rattle.cycles.proofs.Roots.{started, searched}
 use Rattle.cycles.proofs.search.reaches_itself.Goals as goal
 
 pub from_each-found-requires : goal.from_each-found-requires
-from_each-found-requires c = (c.requires.0, started c.args.work.now c.requires.0 c.requires.1 c.clear16.ensures c.clear16.kept.0)
+from_each-found-requires c = (c.requires.0, started c.args.work.now c.requires.0 c.requires.1 c.clear16.ensures c.clear16.auto.row)
 
 pub returns : goal.returns
 returns c = searched c.clear16.ensures c.from_each-found.ensures c.clear16-2.ensures

@@ -1,7 +1,6 @@
 -- `jobfile::contents::judge_bodies` meets its contract.
 -- Assumes nothing.
 use mathlib.Core.Path.{sym, ◌∙◌}
-use Prim.Native.Nat.{◌-◌}
 use native.Mathlib.Omega.{arith}
 use Rattle.jobfile.proofs.ReaderLaws.{walked_none, walked_more, bodies_wrong, bodies_past, bodies_follow, bodies_good}
 use Rattle.jobfile.proofs.contents.judge_bodies.Goals as goal

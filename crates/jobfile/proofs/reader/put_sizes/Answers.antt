@@ -1,7 +1,6 @@
 -- `jobfile::reader::put_sizes` meets its contract.
 -- Assumes nothing.
 use mathlib.Core.Path.{sym, ◌∙◌}
-use Prim.Native.Nat.{◌-◌}
 use Rattle.rows.proofs.Laws.{built_none, built_more, built_all}
 use Rattle.jobfile.specs.File.{count_in}
 use Rattle.jobfile.proofs.FileLaws.{length-sizes_from}

@@ -1,25 +1,20 @@
 -- `jobfile::taken::body` meets its contract.
 -- Assumes nothing.
-use Prim.Native.Nat.{◌+◌, ◌*◌, ◌≤◌}
 use native.Mathlib.Omega.{arith}
-use lib.ListN.{length}
 use Rattle.jobfile.proofs.TakenLaws.{body_ends, body_there}
 use Rattle.jobfile.proofs.taken.body.Goals as goal
 
-inside : (s : tie.Start) → (1 ≤ s.args.job) × (2 + 6 * s.args.job ≤ length s.args.file.now)
-inside s = (s.requires.some_job, omega (arith, s.requires.inside, s.requires.good.contents_inside))
-
 pub overflow_sub-job : goal.overflow_sub-job
-overflow_sub-job c = omega (arith, (inside s).0, (inside s).1)
+overflow_sub-job c = omega (arith, c.requires.some_job, c.requires.inside, c.requires.good.contents_inside)
 
 pub number-start-requires : goal.number-start-requires
-number-start-requires c = omega (arith, (inside s).0, (inside s).1)
+number-start-requires c = omega (arith, c.requires.some_job, c.requires.inside, c.requires.good.contents_inside)
 
 pub overflow_sub-job-2 : goal.overflow_sub-job-2
-overflow_sub-job-2 c = omega (arith, (inside s).0, (inside s).1)
+overflow_sub-job-2 c = omega (arith, c.requires.some_job, c.requires.inside, c.requires.good.contents_inside)
 
 pub body_size-requires : goal.body_size-requires
-body_size-requires c = omega (arith, (inside s).0, (inside s).1)
+body_size-requires c = omega (arith, c.requires.some_job, c.requires.inside, c.requires.good.contents_inside)
 
 pub slice_bounds-result-end : goal.slice_bounds-result-end
 slice_bounds-result-end c = omega (arith, body_ends c.requires c.number-start.ensures.0 c.body_size.ensures.0)

@@ -1,6 +1,5 @@
 -- `jobfile::taken::take_words` meets its contract.
 -- Assumes nothing.
-use Prim.Native.Nat.{◌-◌}
 use Rattle.rows.proofs.Laws.{built_none, built_more, built_all}
 use Rattle.jobfile.proofs.NumberLaws.{length-row_in}
 use Rattle.jobfile.proofs.TakenLaws.{next_taken, all_taken}

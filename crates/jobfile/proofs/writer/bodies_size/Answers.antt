@@ -1,6 +1,5 @@
 -- `jobfile::writer::bodies_size` meets its contract.
 -- Assumes nothing.
-use Prim.Native.Nat.{◌-◌}
 use native.Mathlib.Omega.{arith}
 use Rattle.jobfile.proofs.WriterLaws.{summed_none, summed_more, summed_all}
 use Rattle.jobfile.proofs.writer.bodies_size.Goals as goal

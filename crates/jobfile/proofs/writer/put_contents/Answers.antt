@@ -1,7 +1,5 @@
 -- `jobfile::writer::put_contents` meets its contract.
 -- Assumes nothing.
-use mathlib.Core.Path.{◌∙◌}
-use Prim.Native.Nat.{◌-◌}
 use native.Mathlib.Omega.{arith}
 use Rattle.jobfile.proofs.WriterLaws.{writing_none, writing_more, writing_all}
 use Rattle.jobfile.proofs.writer.put_contents.Goals as goal
@@ -16,9 +14,6 @@ put_entry-requires c = let w = c.loop-k.invariant in
 pub loop-k-preserved : goal.loop-k-preserved
 loop-k-preserved c = let m = writing_more c.loop-k.invariant c.loop-k-test.true c.at-n.ensures.0 c.at-p.ensures.0 in
     rw c.put_entry.ensures m
-
-pub shape_of-file : goal.shape_of-file
-shape_of-file c = c.loop-k.invariant.built.same_length ∙ c.write16.auto.0
 
 pub returns : goal.returns
 returns c = writing_all c.requires c.write16.ensures c.loop-k.invariant c.loop-k-test.false

@@ -1,5 +1,6 @@
 -- `matcher::first_failure::join_first` meets its contract.
 -- Assumes nothing.
+use mathlib.Core.List.{[]}
 use mathlib.Core.Path.{sym}
 use native.Mathlib.Omega.{arith}
 use lib.Seq.{length-take-le}
@@ -14,7 +15,7 @@ pub slice_bounds-join-end : goal.slice_bounds-join-end
 slice_bounds-join-end c = sym (length-take-le _ _ (omega (arith, length-pairs_of c.args.list.now)))
 
 pub join-requires : goal.join-requires
-join-requires c = ([], first_joinable c.requires.0 c.requires.1 c.apart.ensures c.apart.kept.1.0)
+join-requires c = ([], first_joinable c.requires.0 c.requires.1 c.apart.ensures c.apart.auto.class)
 
 pub returns : goal.returns
-returns c = joins_first c.requires.0 c.requires.1 c.apart.ensures c.apart.kept.1.0 c.join.ensures c.join.kept.1.1.0
+returns c = joins_first c.requires.0 c.requires.1 c.apart.ensures c.apart.auto.class c.join.ensures c.join.auto.class

@@ -15,8 +15,7 @@ pub first_cycle-first-requires : goal.first_cycle-first-requires
 first_cycle-first-requires c = cycle_found c.requires.0 c.join_until_clash-joined.ensures c.reaches_itself.ensures c.if-reaches_itself.true
 
 pub returns-then-reaches_itself : goal.returns-then-reaches_itself
-returns-then-reaches_itself c = let u : tie.After-join-until-clash = ??r.before.before.before.before.before.before.before in
-    cycle_refused c.requires.0 u.join-until-clash.ensures c.reaches_itself.ensures c.requires.1 c.first_cycle-first.ensures c.clear16.ensures _ refl
+returns-then-reaches_itself c = cycle_refused c.requires.0 c.join_until_clash-joined.ensures c.reaches_itself.ensures c.requires.1 c.first_cycle-first.ensures c.clear16.ensures _ refl
 
 pub returns-then-joined-list : goal.returns-then-joined-list
 returns-then-joined-list c = clash_verdict c.requires.1 (standing_after c.requires.0 c.join_until_clash-joined.ensures.lent) c.join_until_clash-joined.ensures (told c.reaches_itself.ensures c.if-reaches_itself.false)
@@ -30,5 +29,5 @@ count_joins-joins-requires c = (
     )
 
 pub returns : goal.returns
-returns c = accepted_verdict c.requires.1 (standing_after c.requires.0 c.join_until_clash-joined.ensures.lent) c.join_until_clash-joined.ensures (told c.reaches_itself.ensures ??c.before.before.before.if1.false)
-    (omega (arith, ??c.before.before.if2.false, length-pairs_of c.args.list.now)) c.count_joins-joins.ensures
+returns c = accepted_verdict c.requires.1 (standing_after c.requires.0 c.join_until_clash-joined.ensures.lent) c.join_until_clash-joined.ensures (told c.reaches_itself.ensures c.if-reaches_itself.false)
+    (omega (arith, c.if-joined-list.false, length-pairs_of c.args.list.now)) c.count_joins-joins.ensures

@@ -5,9 +5,9 @@ use Rattle.rows.proofs.Laws.{number_at-fetched}
 use Rattle.rows.proofs.little_endian.read16.Goals as goal
 
 pub returns : goal.returns
-returns c = let start = ??c.before.before.before in
+returns c =
     omega (
       arith,
-      number_at-fetched 2 start.args.at start.args.bytes.now start.requires,
+      number_at-fetched 2 c.args.at c.args.bytes.now c.requires,
       simp towards_suc at c.byte-high.ensures.0,
     )

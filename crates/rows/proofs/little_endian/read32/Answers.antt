@@ -5,10 +5,10 @@ use Rattle.rows.proofs.Laws.{number_at-fetched}
 use Rattle.rows.proofs.little_endian.read32.Goals as goal
 
 pub returns : goal.returns
-returns c = let start = ??c.before.before.before.before.before in
+returns c =
     omega (
       arith,
-      number_at-fetched 4 start.args.at start.args.bytes.now start.requires,
+      number_at-fetched 4 c.args.at c.args.bytes.now c.requires,
       simp towards_suc at c.byte-second.ensures.0,
       simp towards_suc at c.byte-third.ensures.0,
       simp towards_suc at c.byte-fourth.ensures.0,

@@ -1,6 +1,5 @@
 -- `rows::row16::clear16` meets its contract: the row is built from the front out of n zeros. Assumes nothing.
 use mathlib.Core.Path.{sym}
-use Prim.Native.Nat.{◌-◌}
 use lib.ListN.{length-replicate, get_or-replicate}
 use Rattle.rows.proofs.Laws.{built_none, built_more, built_all}
 use Rattle.rows.proofs.row16.clear16.Goals as goal

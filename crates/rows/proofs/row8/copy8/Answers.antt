@@ -1,6 +1,5 @@
 -- `rows::row8::copy8` meets its contract: `into` is built from the front out of `from`. Assumes nothing.
 use mathlib.Core.Path.{refl}
-use Prim.Native.Nat.{◌-◌}
 use Rattle.rows.proofs.Laws.{built_none, built_more, built_all}
 use Rattle.rows.proofs.row8.copy8.Goals as goal
 

@@ -1,11 +1,11 @@
 -- `shape::layout_fault::after` meets its contract: one case a thing wanted. Assumes nothing.
-use mathlib.Core.List.{◌∷◌}
+use mathlib.Core.List.{[], ◌∷◌}
 use mathlib.Core.Path.{sym, ap, ◌∙◌}
 use mathlib.Core.Bool.{Bool, cond}
 use Rattle.words.specs.Word.{same_kind}
 use Rattle.words.specs.declared.kind.Kind.{Kind}
 use Rattle.words.specs.declared.kind.Kind.TheVariants.{Function}
-use Rattle.words.proofs.KindLaws.{other_kind, told_others}
+use Rattle.words.proofs.KindLaws.{other_kind}
 use Rattle.table.specs.Layout.{item, count, more}
 use Rattle.table.specs.Layout.{after as after_word}
 use Rattle.shape.proofs.layout_fault.after.Goals as goal
@@ -16,7 +16,7 @@ returns-in-Function c = rw c.in-Item.is (sym (ap (λ (k : Kind). cond (same_kind
 
 pub returns-in_default : goal.returns-in_default
 unfolding after_word
-returns-in_default c = rw (c.in-Item.is, ← c.kind.ensures) (sym (ap (λ (b : Bool). cond b count item) (other_kind _ _ (told_others (Function ∷ []) c.kind.result c.in_default.keys2).0)))
+returns-in_default c = rw (c.in-Item.is, ← c.kind.ensures) (sym (ap (λ (b : Bool). cond b count item) (other_kind _ _ c.in_default.not-Function)))
 
 pub returns-in-Count : goal.returns-in-Count
 unfolding after_word

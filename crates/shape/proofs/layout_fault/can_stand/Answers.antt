@@ -1,8 +1,8 @@
 -- `shape::layout_fault::can_stand` meets its contract: one case a thing wanted. Assumes nothing.
-use mathlib.Core.List.{◌∷◌}
+use mathlib.Core.List.{[], ◌∷◌}
 use mathlib.Core.Path.{sym}
 use Rattle.words.specs.declared.kind.Kind.TheVariants.{Count}
-use Rattle.words.proofs.KindLaws.{other_kind, told_others}
+use Rattle.words.proofs.KindLaws.{other_kind}
 use Rattle.table.specs.Layout.{can_stand}
 use Rattle.shape.proofs.layout_fault.can_stand.Goals as goal
 
@@ -16,7 +16,7 @@ returns-in-Count-kind c = rw (c.in-Count.is, c.in-Count-kind.is)
 
 pub returns-in_default : goal.returns-in_default
 unfolding can_stand
-returns-in_default c = rw c.in-Count.is (sym (other_kind _ _ (told_others (Count ∷ []) c.args.kind c.in_default.keys2).0))
+returns-in_default c = rw c.in-Count.is (sym (other_kind _ _ c.in_default.not-Count))
 
 pub returns-in-Arguments : goal.returns-in-Arguments
 unfolding can_stand

@@ -1,7 +1,6 @@
 -- `shape::pointer_fault::is_bad_pointer` meets its contract, by one law a branch. Assumes nothing.
-use mathlib.Core.List.{◌∷◌}
+use mathlib.Core.List.{[], ◌∷◌}
 use Rattle.words.specs.declared.kind.Kind.TheVariants.{Pointer}
-use Rattle.words.proofs.KindLaws.{told_others}
 use Rattle.shape.proofs.WordLaws.{pointer_there, pointer_elsewhere}
 use Rattle.shape.proofs.pointer_fault.is_bad_pointer.Goals as goal
 
@@ -9,4 +8,4 @@ pub returns-in-Pointer : goal.returns-in-Pointer
 returns-in-Pointer c = pointer_there c.args.table.now c.args.at c.kind.ensures c.in-Pointer.is c.address.ensures c.is_bad_target.ensures
 
 pub returns-in_default : goal.returns-in_default
-returns-in_default c = pointer_elsewhere c.args.table.now c.args.at c.kind.ensures (told_others (Pointer ∷ []) c.kind.result c.in_default.keys2).0
+returns-in_default c = pointer_elsewhere c.args.table.now c.args.at c.kind.ensures c.in_default.not-Pointer

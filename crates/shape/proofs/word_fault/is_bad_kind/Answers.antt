@@ -1,8 +1,5 @@
 -- `shape::word_fault::is_bad_kind` meets its contract: one case a branch. Assumes nothing.
-use mathlib.Core.List.{◌∷◌}
 use borrow.Author.Tests.{eq-eqb, ne_eqb}
-use Rattle.words.specs.declared.kind.Kind.TheVariants.{Count, NoWord}
-use Rattle.words.proofs.KindLaws.{told_others}
 use Rattle.table.specs.Faults.{bad_kind}
 use Rattle.shape.proofs.WordLaws.{good_kind}
 use Rattle.shape.proofs.word_fault.is_bad_kind.Goals as goal
@@ -20,4 +17,4 @@ unfolding bad_kind
 returns-else-content-eq0 c = rw (c.in-Count.is, ne_eqb _ _ c.if-content-eq0.false)
 
 pub returns-in_default : goal.returns-in_default
-returns-in_default c = let others = told_others (NoWord ∷ Count ∷ []) c.args.kind c.in_default.keys3 in good_kind _ _ others.0 others.1.0
+returns-in_default c = good_kind _ _ c.in_default.not-NoWord c.in_default.not-Count

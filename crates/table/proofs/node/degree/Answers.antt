@@ -1,9 +1,6 @@
 -- `table::node::degree` meets its contract. Assumes nothing.
-use mathlib.Core.List.{◌∷◌}
 use mathlib.Core.Path.{sym, refl, ◌∙◌}
 use native.Mathlib.Omega.{arith}
-use Rattle.words.specs.declared.kind.Kind.TheVariants.{Function}
-use Rattle.words.proofs.KindLaws.{told_others}
 use Rattle.table.specs.Table.{degree}
 use Rattle.table.proofs.Readable.{block_inside}
 use Rattle.table.proofs.Leaves.{picked, passed}
@@ -18,4 +15,4 @@ returns-in-Function c = picked _ c.kind.ensures c.in-Function.is c.content.ensur
 
 pub returns-in_default : goal.returns-in_default
 unfolding degree
-returns-in_default c = passed _ c.kind.ensures (told_others (Function ∷ []) c.kind.result c.in_default.keys2).0 refl
+returns-in_default c = passed _ c.kind.ensures c.in_default.not-Function refl

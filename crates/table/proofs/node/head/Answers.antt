@@ -1,10 +1,7 @@
 -- `table::node::head` meets its contract: one case a branch. Assumes nothing.
-use mathlib.Core.List.{◌∷◌}
 use mathlib.Core.Path.{sym, ap, ◌∙◌}
 use native.Mathlib.Omega.{arith}
-use Rattle.words.specs.declared.kind.Kind.TheVariants.{Constant, Function}
 use Rattle.words.specs.declared.head.Head.{Head}
-use Rattle.words.proofs.KindLaws.{told_others}
 use Rattle.table.specs.Heads.{top}
 use Rattle.table.proofs.Readable.{block_inside}
 use Rattle.table.proofs.Leaves.{picked, passed, as_label}
@@ -19,8 +16,8 @@ returns-in-Function c = picked _ c.kind-kind.ensures c.in-Function.is (λ i. Hea
 
 pub returns-in-Constant : goal.returns-in-Constant
 unfolding top
-returns-in-Constant c = passed _ c.kind-kind.ensures (told_others (Function ∷ []) c.kind-kind.result c.in_default.keys2).0 (picked _ c.kind-kind.ensures c.in-Constant.is (ap Head.Constant (as_label c.label-in-Constant.ensures)))
+returns-in-Constant c = passed _ c.kind-kind.ensures c.in_default.not-Function (picked _ c.kind-kind.ensures c.in-Constant.is (ap Head.Constant (as_label c.label-in-Constant.ensures)))
 
 pub returns-in_default-kind : goal.returns-in_default-kind
 unfolding top
-returns-in_default-kind c = passed _ c.kind-kind.ensures (told_others (Function ∷ []) c.kind-kind.result c.in_default.keys2).0 (passed _ c.kind-kind.ensures (told_others (Constant ∷ []) c.kind-kind.result c.in_default-kind.keys2).0 (ap Head.Variable (as_label c.label-in_default-kind.ensures)))
+returns-in_default-kind c = passed _ c.kind-kind.ensures c.in_default.not-Function (passed _ c.kind-kind.ensures c.in_default-kind.not-Constant (ap Head.Variable (as_label c.label-in_default-kind.ensures)))

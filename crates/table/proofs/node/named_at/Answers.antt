@@ -1,8 +1,5 @@
 -- `table::node::named_at` meets its contract. Assumes nothing.
-use mathlib.Core.List.{◌∷◌}
 use mathlib.Core.Path.{refl}
-use Rattle.words.specs.declared.kind.Kind.TheVariants.{Pointer}
-use Rattle.words.proofs.KindLaws.{told_others}
 use Rattle.table.specs.Table.{named}
 use Rattle.table.proofs.Leaves.{picked, passed}
 use Rattle.table.proofs.node.named_at.Goals as goal
@@ -13,4 +10,4 @@ returns-in-Pointer c = picked _ c.kind.ensures c.in-Pointer.is c.address.ensures
 
 pub returns-in_default : goal.returns-in_default
 unfolding named
-returns-in_default c = passed _ c.kind.ensures (told_others (Pointer ∷ []) c.kind.result c.in_default.keys2).0 refl
+returns-in_default c = passed _ c.kind.ensures c.in_default.not-Pointer refl
