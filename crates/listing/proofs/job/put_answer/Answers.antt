@@ -10,15 +10,15 @@ put_variables-requires c = (c.requires.0 (sym c.number.ensures ∙ c.if-number-e
 
 pub returns-then-number-eq0 : goal.returns-then-number-eq0
 returns-then-number-eq0 c = (
-      record {
-        accepted = λ z. line_more (variable_lines c.args.table.now c.args.class.now) c.put_job-size.ensures.0 c.put_variables.ensures.0.next c.put_variables.ensures.0.there;
-        refused = λ other. absurd (other (sym c.number.ensures ∙ c.if-number-eq0.true));
-      },
-      c.put_variables.ensures.1,
-    )
+  record {
+    accepted = λ z. line_more (variable_lines c.args.table.now c.args.class.now) c.put_job-size.ensures.0 c.put_variables.ensures.0.next c.put_variables.ensures.0.there;
+    refused = λ other. absurd (other (sym c.number.ensures ∙ c.if-number-eq0.true));
+  },
+  c.put_variables.ensures.1,
+)
 
 pub returns : goal.returns
 returns c = (
-      record { accepted = λ z. absurd (c.if-number-eq0.false (c.number.ensures ∙ z)); refused = λ other. c.put_job-size.ensures.0 },
-      omega (arith, c.put_job-size.ensures.1),
-    )
+  record { accepted = λ z. absurd (c.if-number-eq0.false (c.number.ensures ∙ z)); refused = λ other. c.put_job-size.ensures.0 },
+  omega (arith, c.put_job-size.ensures.1),
+)

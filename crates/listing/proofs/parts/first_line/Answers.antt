@@ -4,7 +4,13 @@ use Rattle.listing.proofs.PartLaws.{header_first, refusal_first}
 use Rattle.listing.proofs.parts.first_line.Goals as goal
 
 pub returns-then-file_number-eq0 : goal.returns-then-file_number-eq0
-returns-then-file_number-eq0 c = (c.header_line.ensures.0, header_first c.judge-answer.result c.judge-answer.ensures (sym c.file_number.ensures ∙ c.if-file_number-eq0.true) c.header_line.ensures.1.0)
+returns-then-file_number-eq0 c = record {
+  counts = c.header_line.ensures.counts;
+  text_in = header_first c.judge-answer.result c.judge-answer.ensures (sym c.file_number.ensures ∙ c.if-file_number-eq0.true) c.header_line.ensures.line_in;
+}
 
 pub returns : goal.returns
-returns c = (c.file_line.ensures.0, refusal_first c.judge-answer.result c.judge-answer.ensures (λ z. c.if-file_number-eq0.false (c.file_number.ensures ∙ z)) c.file_line.ensures.1.0)
+returns c = record {
+  counts = c.file_line.ensures.counts;
+  text_in = refusal_first c.judge-answer.result c.judge-answer.ensures (λ z. c.if-file_number-eq0.false (c.file_number.ensures ∙ z)) c.file_line.ensures.line_in;
+}

@@ -8,10 +8,10 @@ use borrow.Author.Rules.{rules}
 use Rattle.listing.proofs.parts.job_lines.Goals as goal
 
 pub returns-then-number-eq0 : goal.returns-then-number-eq0
-returns-then-number-eq0 c = ((omega arith, refl), part_nowhere c.args.lines.now (λ there. omega (arith, there.some_job)))
+returns-then-number-eq0 c = record { counts = (omega arith, refl); text_in = part_nowhere c.args.lines.now (λ there. omega (arith, there.some_job)) }
 
 pub returns-then-sizes-number : goal.returns-then-sizes-number
-returns-then-sizes-number c = ((omega arith, refl), part_nowhere c.args.lines.now (no_job c.read-read.ensures (omega arith)))
+returns-then-sizes-number c = record { counts = (omega arith, refl); text_in = part_nowhere c.args.lines.now (no_job c.read-read.ensures (omega arith)) }
 
 pub offset_bounds-row-number : goal.offset_bounds-row-number
 offset_bounds-row-number c = omega (arith, read_count c.read-read.ensures, read_length c.read-read.ensures)
@@ -31,4 +31,4 @@ put_job_lines-requires c = let there = job_there c.read-read.ensures {number = c
 
 pub returns : goal.returns
 returns c = let there = job_there c.read-read.ensures {number = c.args.number} (omega arith) (omega arith) in
-    (line_counts c.put_job_lines.result c.put_job_lines.new.row (omega (arith, c.put_job_lines.ensures.1)), part_there there c.put_job_lines.ensures.0)
+    record { counts = line_counts c.put_job_lines.result c.put_job_lines.new.row (omega (arith, c.put_job_lines.ensures.1)); text_in = part_there there c.put_job_lines.ensures.0 }

@@ -1,7 +1,5 @@
 -- `listing::variables::put_line` meets its contract. Assumes nothing.
-use mathlib.Core.List.{[], ◌∷◌}
 use native.Mathlib.Omega.{arith}
-use Rattle.words.specs.declared.kind.Kind.{Kind}
 use Rattle.listing.proofs.PutLaws.{line_there, line_nowhere}
 use Rattle.listing.proofs.variables.put_line.Goals as goal
 
@@ -9,4 +7,4 @@ pub returns-in-Variable : goal.returns-in-Variable
 returns-in-Variable c = (line_there c.args.table.now c.args.class.now c.args.x c.kind.ensures c.in-Variable.is c.label.ensures c.put_variable.ensures.0, c.put_variable.ensures.1)
 
 pub returns : goal.returns
-returns c = (line_nowhere c.args.table.now c.args.class.now c.args.x c.kind.ensures c.args.at c.args.row.now (c.in_default.not-Variable, tt).0, omega arith)
+returns c = (line_nowhere c.args.table.now c.args.class.now c.args.x c.kind.ensures c.args.at c.args.row.now c.in_default.not-Variable, omega arith)
