@@ -39,7 +39,7 @@ use Rattle.host.proofs.JobLaws.{sizes_pass}
 use Rattle.demands.specs.HostPasses.{HostPasses}
 
 -- What is accepted passes all checks.
-pub accepted_host_passes : {bytes : List ℕ} {job : ℕ} {room : List ℕ} {a : ℕ} {Room-after : List ℕ} → HostOf bytes job room a Room-after → a ≡ 0 → HostPasses bytes job room
+pub accepted_host_passes : {bytes : List ℕ} {job : ℕ} {room : List ℕ} {a : ℕ} {after : List ℕ} → HostOf bytes job room a after → a ≡ 0 → HostPasses bytes job room
 unfolding host_number file_number match_number
 accepted_host_passes {bytes} {job} {room} {a} h z =
     (none_parts (HostFault bytes job room) (early_order ++ map of_match (table_rows ++ list_rows)) (map of_match pair_rows)
@@ -116,7 +116,7 @@ module _ {bytes : List ℕ} {job : ℕ} {room : List ℕ} (passes : HostPasses b
   same_job : lent_job table (list_of bytes job) class work ≡ called_job bytes job
   same_job = ap₂ (sent table (list_of bytes job)) (length-replicate {A = ℕ} (words_of bytes job) 0) (length-replicate {A = ℕ} (4 * words_of bytes job) 0)
 
-  module _ {a : ℕ} {Room-after : List ℕ} (h : HostOf bytes job room a Room-after) where
+  module _ {a : ℕ} {after : List ℕ} (h : HostOf bytes job room a after) where
     pub as_told : Told a h.place h.joined
     as_told = told (λ refused. (h.refused refused).0) (late a h.place h.answered)
 

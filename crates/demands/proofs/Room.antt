@@ -1,5 +1,5 @@
 -- What the host call leaves in the room, by its answer: nothing (`room_untouched`), the report (`room_reported`), and the
--- zeros of a refusal (`room_zero`), the class table of an accepted list (`room_bound`); and that it keeps its length (`room-length`). Assumes nothing.
+-- zeros of a refusal (`room_zero`), the class table of an accepted list (`room_bound`); and that it keeps its length (`room_length`). Assumes nothing.
 use mathlib.Core.Path.{◌≡◌, refl, ap, ap₂, ◌∙◌}
 use mathlib.Core.Bool.{Bool, true, false, cond}
 use mathlib.Core.Logic.{◌⊎◌, inl, inr}
@@ -28,26 +28,26 @@ pub length_report : (a p j : ℕ) (classes : List ℕ) → length (report_of a p
 unfolding report_of
 length_report a p j classes = simp (length-append, length-bytes_of, length-bytes_of_row) (omega arith)
 
-module _ {bytes : List ℕ} {job : ℕ} {room : List ℕ} {a : ℕ} {Room-after : List ℕ} (h : HostOf bytes job room a Room-after) where
-  pub room_untouched : writes_nothing a ≡ true → Room-after ≡ room
+module _ {bytes : List ℕ} {job : ℕ} {room : List ℕ} {a : ℕ} {after : List ℕ} (h : HostOf bytes job room a after) where
+  pub room_untouched : writes_nothing a ≡ true → after ≡ room
   unfolding room_after
   room_untouched e = h.room_left ∙ ap (λ (b : Bool). cond b room (report_of a h.place h.joined h.classes ++ drop (length (report_of a h.place h.joined h.classes)) room)) e
 
-  pub room_reported : writes_nothing a ≡ false → Room-after ≡ report_of a h.place h.joined h.classes ++ drop (6 + 2 * length h.classes) room
+  pub room_reported : writes_nothing a ≡ false → after ≡ report_of a h.place h.joined h.classes ++ drop (6 + 2 * length h.classes) room
   unfolding room_after
   room_reported e =
       h.room_left
       ∙ ap (λ (b : Bool). cond b room (report_of a h.place h.joined h.classes ++ drop (length (report_of a h.place h.joined h.classes)) room)) e
       ∙ ap (λ (n : ℕ). report_of a h.place h.joined h.classes ++ drop n room) (length_report a h.place h.joined h.classes)
 
-  pub room_zero : (a ≡ 0 → ⊥) → writes_nothing a ≡ false → Room-after ≡ report_of a h.place 0 (replicate (words_of bytes job) 0) ++ drop (6 + 2 * words_of bytes job) room
+  pub room_zero : (a ≡ 0 → ⊥) → writes_nothing a ≡ false → after ≡ report_of a h.place 0 (replicate (words_of bytes job) 0) ++ drop (6 + 2 * words_of bytes job) room
   room_zero refused e =
       room_reported e
       ∙ ap₂ (λ (j : ℕ) (l : List ℕ). report_of a h.place j l ++ drop (6 + 2 * length l) room) (h.refused refused).0 (h.refused refused).1
       ∙ ap (λ (n : ℕ). report_of a h.place 0 (replicate (words_of bytes job) 0) ++ drop (6 + 2 * n) room) (length-replicate {A = ℕ} (words_of bytes job) 0)
 
   pub room_bound : a ≡ 0 → ClassTable (graph_of (table_of bytes job)) (pairs_of (list_of bytes job)) h.classes
-      × (Room-after ≡ report_of 0 0 (joins (graph_of (table_of bytes job)) h.classes) h.classes ++ drop (6 + 2 * words_of bytes job) room)
+      × (after ≡ report_of 0 0 (joins (graph_of (table_of bytes job)) h.classes) h.classes ++ drop (6 + 2 * words_of bytes job) room)
   unfolding writes_nothing host_number file_number match_number
   room_bound z =
       let b = h.bound z in
@@ -75,10 +75,10 @@ module _ {bytes : List ℕ} {job : ℕ} {room : List ℕ} {a : ℕ} {Room-after 
   classes-length (yes z) = (h.bound z).class_table.long ∙ length-row_in 4 (words_of bytes job) (body_in bytes (entry_of job))
   classes-length (no z) = ap length (h.refused z).1 ∙ length-replicate {A = ℕ} (words_of bytes job) 0
 
-  pub room-length : length Room-after ≡ length room
-  room-length = go (writes_nothing a) refl
+  pub room_length : length after ≡ length room
+  room_length = go (writes_nothing a) refl
     where
-      go : (b : Bool) → writes_nothing a ≡ b → length Room-after ≡ length room
+      go : (b : Bool) → writes_nothing a ≡ b → length after ≡ length room
       go true e = ap length (room_untouched e)
       go false e =
           let size : length h.classes ≡ words_of bytes job = classes-length (ℕ_discrete a 0) in

@@ -1,6 +1,6 @@
 -- The host call: which number it returns, and what it leaves in the room. The sentences quoted are document 01's, "The host
 -- and the listing". Assumes nothing.
-use Rattle.std.specs.Prelude.{◌≡◌, Bool, cond, ◌||◌, ◌⊎◌, List, [], ◌∷◌, ◌++◌, map, ℕ, ◌+◌, ◌-◌, ◌*◌, ◌<◌, eqb, length, drop, replicate}
+use Rattle.std.specs.Prelude.{◌≡◌, Bool, cond, ◌||◌, ◌⊎◌, List, [], ◌∷◌, ◌++◌, map, ℕ, ◌+◌, ◌*◌, ◌<◌, eqb, length, drop, replicate}
 use Rattle.rows.specs.LittleEndian.{bytes_of}
 use Rattle.words.specs.Limits.{most_words}
 use Rattle.graphs.specs.Partition.{pairs_of, ClassTable, joins}
@@ -80,7 +80,7 @@ pub record JobAcceptedWith (bytes : List ℕ) (job joined : ℕ) (classes : List
   pub joins_counted : joined ≡ joins (graph_of (table_of bytes job)) classes
 
 -- "it passes a job file as bytes, a job number and byte room, and gets the answer number"
-pub record HostOf (bytes : List ℕ) (job : ℕ) (room : List ℕ) (answer : ℕ) (Room-after : List ℕ) : Type 0 where
+pub record HostOf (bytes : List ℕ) (job : ℕ) (room : List ℕ) (answer : ℕ) (after : List ℕ) : Type 0 where
   pub place : ℕ
   pub joined : ℕ
   pub classes : List ℕ
@@ -88,4 +88,4 @@ pub record HostOf (bytes : List ℕ) (job : ℕ) (room : List ℕ) (answer : ℕ
   pub bound : answer ≡ 0 → JobAcceptedWith bytes job joined classes
   -- "zeros if refused"
   pub refused : (answer ≡ 0 → ⊥) → (joined ≡ 0) × (classes ≡ replicate (words_of bytes job) 0)
-  pub room_left : Room-after ≡ room_after answer (report_of answer place joined classes) room
+  pub room_left : after ≡ room_after answer (report_of answer place joined classes) room

@@ -26,6 +26,6 @@ room_written Body file room = room
 room_written File file room = room
 room_written Room file room = room
 
-pub record WriteOf (sizes bodies room : List ℕ) (answer : WriteAnswer) (Room-after : List ℕ) : Type 0 where
+pub record WriteOf (sizes bodies room : List ℕ) (answer : WriteAnswer) (after : List ℕ) : Type 0 where
   pub answered : Answered file_number (WriteFault sizes bodies room) write_order (number_of answer) (place_of answer)
-  pub room_left : Room-after ≡ room_written answer (file_of sizes bodies) room
+  pub room_left : after ≡ room_written answer (file_of sizes bodies) room

@@ -15,7 +15,7 @@ use Rattle.graphs.specs.Partition.{Pair, Sides, Same, itself, placed, Clash, Cla
 use Rattle.graphs.proofs.Finite.{steps_map}
 use Rattle.graphs.proofs.Classes.{child_at, same_nodes, together_one_entry, entry_together}
 use Rattle.graphs.proofs.Unifiers.{name_symbol}
-use Rattle.table.specs.Table.{graph_of, degree, child_of}
+use Rattle.table.specs.Table.{graph_of, child_of}
 use Rattle.table.specs.Readable.{PassedCheck}
 use Rattle.table.proofs.Children.{NamedChild, named_child, degree_child}
 use Rattle.cycles.specs.Digraph.{Edge, digraph_of, Returns, Searchable}

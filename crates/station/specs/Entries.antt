@@ -22,7 +22,7 @@ pub record CheckedOf (t class work : List ℕ) (r : ℕ) (class_after work_after
   pub is : r ≡ as_one (check_number answer) (check_place answer) (check_joins answer)
 
 -- the one answer of the writer, by its number, and the room that the writer leaves
-pub record WrittenOf (sizes bodies room : List ℕ) (r : ℕ) (Room-after : List ℕ) : Type 0 where
+pub record WrittenOf (sizes bodies room : List ℕ) (r : ℕ) (after : List ℕ) : Type 0 where
   pub answer : WriteAnswer
-  pub written : WriteOf sizes bodies room answer Room-after
+  pub written : WriteOf sizes bodies room answer after
   pub is : r ≡ write_number answer

@@ -23,12 +23,7 @@ pub fn station_match(file: &[u8], job: u32, room: &mut [u8]) -> u16
 }
 
 // Answer + 65,536 x place + 4,294,967,296 x joins of a match on lent buffers.
-pub fn station_lent(
-    table: &[u32],
-    list: &[u16],
-    class: &mut [u16],
-    work: &mut [u16],
-) -> u64
+pub fn station_lent(table: &[u32], list: &[u16], class: &mut [u16], work: &mut [u16]) -> u64
     ensures { LentOf table.now list.now class.old work.old result class.new work.new }
 {
     host::matched::as_one(matcher::match_list(table, list, class, work))

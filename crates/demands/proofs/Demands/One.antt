@@ -31,7 +31,7 @@ use Rattle.jobfile.proofs.WriteAnswers.{write_only}
 use Rattle.station.proofs.Theorems.{host_only, lent_only, check_entry_only, written_only, sizes_only}
 use Rattle.demands.proofs.Buffers.{check_untouched, check_zero, refused_untouched, refused_zero, write_untouched}
 use Rattle.demands.proofs.Lengths.{check_lengths, match_lengths, write_length}
-use Rattle.demands.proofs.Room.{room-length, room_untouched, room_zero}
+use Rattle.demands.proofs.Room.{room_length, room_untouched, room_zero}
 use Rattle.demands.proofs.OldContents.{check_old_contents, match_old_contents, host_old_contents}
 use Rattle.demands.proofs.Packing.{match_unpacked, check_unpacked, sizes_unpacked}
 use Rattle.demands.proofs.Entries.{lent_old_contents, lent_answered, lent_untouched, lent_zero, check_entry_old_contents, check_entry_answered, check_entry_untouched, check_entry_zero, write_entry_old_contents, write_entry_answered, write_entry_untouched, read_entry_old_contents, read_entry_answered, read_entry_untouched, read_entry_length}
@@ -130,7 +130,7 @@ pub writer_keeps_length : {sizes bodies room after : List ℕ} {r : WriteAnswer}
 writer_keeps_length = write_length
 
 pub host_call_keeps_length : {bytes room after : List ℕ} {job r : ℕ} → HostOf bytes job room r after → length after ≡ length room
-host_call_keeps_length = room-length
+host_call_keeps_length = room_length
 
 pub lent_keeps_lengths : {t list class work : List ℕ} {r : ℕ} {class_after work_after : List ℕ} → LentOf t list class work r class_after work_after
     → (length class_after ≡ length class) × (length work_after ≡ length work)

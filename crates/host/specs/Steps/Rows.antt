@@ -1,5 +1,5 @@
 -- The rows that are lent for a job of a file. For this crate alone. Assumes nothing.
-use Rattle.std.specs.Prelude.{◌≡◌, List, ℕ, ◌+◌, ◌-◌, ◌*◌, ◌≤◌, min, length}
+use Rattle.std.specs.Prelude.{◌≡◌, List, ℕ, ◌+◌, ◌*◌, ◌≤◌, min, length}
 use Rattle.words.specs.Limits.{most_words}
 use Rattle.jobfile.specs.File.{pairs_in}
 use Rattle.jobfile.specs.Jobs.{entry_of, words_of, RowsForJob}

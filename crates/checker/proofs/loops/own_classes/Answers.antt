@@ -1,6 +1,5 @@
 -- `checker::loops::own_classes` meets its contract.
 -- Assumes nothing.
-use Prim.Native.Nat.{◌-◌}
 use mathlib.Core.Path.{◌≡◌}
 use native.Mathlib.Omega.{arith}
 use lib.ListN.{get_or}

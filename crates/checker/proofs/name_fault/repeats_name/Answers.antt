@@ -1,7 +1,5 @@
 -- `checker::name_fault::repeats_name` meets its contract: a word that is no variable repeats none. Assumes nothing.
-use mathlib.Core.List.{[], ◌∷◌}
 use mathlib.Core.Path.{sym, ◌∙◌}
-use Rattle.words.specs.declared.kind.Kind.TheVariants.{Variable}
 use Rattle.checker.proofs.NameLaws.{judged_other}
 use Rattle.checker.proofs.name_fault.repeats_name.Goals as goal
 

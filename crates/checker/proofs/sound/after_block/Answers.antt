@@ -17,11 +17,11 @@ returns-then-table-end c = nowhere (stays_same _ _)
 
 pub are_sound_arguments-requires : goal.are_sound_arguments-requires
 are_sound_arguments-requires c = (
-      count_chained c.requires.0 (sym c.is_sound_count.ensures ∙ not-false _ c.if-not-is_sound_count.false-raw),
-      omega arith,
-      omega arith,
-      omega arith,
-    )
+  count_chained c.requires.0 (sym c.is_sound_count.ensures ∙ not-false _ c.if-not-is_sound_count.false-raw),
+  omega arith,
+  omega arith,
+  omega arith,
+)
 
 pub returns-then-not-are_sound_arguments : goal.returns-then-not-are_sound_arguments
 returns-then-not-are_sound_arguments c = nowhere c.are_sound_arguments.ensures.stays

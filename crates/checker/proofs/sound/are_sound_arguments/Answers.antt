@@ -1,6 +1,5 @@
 -- `checker::sound::are_sound_arguments` meets its contract: the walk has come to `at`, and as many
 -- arguments are to come as words are left. Assumes nothing.
-use Prim.Native.Nat.{◌-◌}
 use native.Mathlib.Omega.{arith}
 use borrow.Author.Tests.{not-false}
 use Rattle.checker.proofs.WalkLaws.{arguments_none, arguments_more, arguments_stop, arguments_all}

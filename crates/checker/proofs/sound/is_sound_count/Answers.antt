@@ -1,7 +1,5 @@
 -- `checker::sound::is_sound_count` meets its contract: by what the two tests read. Assumes nothing.
-use mathlib.Core.List.{[], ◌∷◌}
 use mathlib.Core.Path.{sym, ◌∙◌}
-use Rattle.words.specs.declared.kind.Kind.TheVariants.{Count}
 use Rattle.checker.proofs.SoundLaws.{no_count, some_count}
 use Rattle.checker.proofs.sound.is_sound_count.Goals as goal
 

@@ -1,6 +1,5 @@
 -- `classes::flatten::flatten` meets its contract. The loop's invariant is `Flat`: the entries passed so far are roots. Assumes
 -- nothing.
-use Prim.Native.Nat.{◌-◌}
 use native.Mathlib.Omega.{arith}
 use borrow.Author.Rules.{rules}
 use Rattle.classes.proofs.Flat.{flat_none, flat_forest, flat_more, flat_all}

@@ -1,6 +1,5 @@
 -- `classes::joining::join_each` meets its contract. The loop's invariant: the pairs before place i are joined.
 -- Assumes nothing.
-use Prim.Native.Nat.{◌-◌}
 use mathlib.Core.Path.{refl}
 use native.Mathlib.Omega.{arith}
 use borrow.Author.Tests.{not-true, not-false}

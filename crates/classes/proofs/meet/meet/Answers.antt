@@ -17,10 +17,10 @@ returns-then-a-b c = λ owed. went_on (same_root_moved c.requires.0 c.requires.1
 
 pub meet_roots-requires : goal.meet_roots-requires
 meet_roots-requires c = (
-      c.requires.0,
-      roots_state c.requires.0 c.requires.1 c.root-a.ensures c.root-b.ensures c.requires.2 c.requires.3,
-      two_roots (roots_nodes c.requires.0 c.requires.1 c.root-a.ensures c.root-b.ensures c.requires.2 c.requires.3) c.if-a-b.false,
-    )
+  c.requires.0,
+  roots_state c.requires.0 c.requires.1 c.root-a.ensures c.root-b.ensures c.requires.2 c.requires.3,
+  two_roots (roots_nodes c.requires.0 c.requires.1 c.root-a.ensures c.root-b.ensures c.requires.2 c.requires.3) c.if-a-b.false,
+)
 
 pub returns : goal.returns
 returns c = λ owed. turned_after (roots_moved c.requires.0 c.requires.1 c.root-a.ensures c.root-b.ensures c.requires.2 c.requires.3 owed) (c.meet_roots.ensures owed)

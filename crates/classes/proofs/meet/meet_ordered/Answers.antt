@@ -1,7 +1,6 @@
 -- `classes::meet::meet_ordered` meets its contract: what the heads say is what the step does.
 -- Assumes nothing.
 use native.Mathlib.Omega.{arith}
-use borrow.Author.Rules.{rules}
 use Rattle.classes.specs.Steps.Meeting.{went_on, clashed}
 use Rattle.classes.proofs.Heads.{said_at}
 use Rattle.classes.proofs.Linked.{room_to_wait, joined_moved, pushed_at, clash_stopped}

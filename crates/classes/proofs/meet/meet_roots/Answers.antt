@@ -12,17 +12,17 @@ key-requires-2 c = (c.requires.0.readable, c.requires.0.well_formed.inside _ c.r
 
 pub meet_ordered-requires : goal.meet_ordered-requires
 meet_ordered-requires c = (
-      c.requires.0,
-      c.requires.1,
-      elim c.if-key.branch [
-        then-key w ↦ ordered_as w.name-is w.later-is (left_first c.requires.0 c.requires.2 c.key.ensures c.key-2.ensures w.if-key.true)
-        | else-key w ↦ ordered_as w.name-is w.later-is (right_first c.requires.0 c.requires.2 c.key.ensures c.key-2.ensures w.if-key.false)
-      ],
-    )
+  c.requires.0,
+  c.requires.1,
+  elim c.if-key.branch [
+    | then-key w ↦ ordered_as w.name-is w.later-is (left_first c.requires.0 c.requires.2 c.key.ensures c.key-2.ensures w.if-key.true)
+    | else-key w ↦ ordered_as w.name-is w.later-is (right_first c.requires.0 c.requires.2 c.key.ensures c.key-2.ensures w.if-key.false)
+  ],
+)
 
 pub returns : goal.returns
 returns c =
     elim c.if-key.branch [
-      then-key w ↦ meets_as w.name-is w.later-is c.meet_ordered.ensures
+      | then-key w ↦ meets_as w.name-is w.later-is c.meet_ordered.ensures
       | else-key w ↦ meets_turned c.requires.1 (meets_as w.name-is w.later-is c.meet_ordered.ensures)
     ]

@@ -1,8 +1,6 @@
 -- `classes::settle::go_down` meets its contract. The loop's invariant: the children before place i have met, and those from i on are
 -- still to meet. Assumes nothing.
-use mathlib.Core.List.{[]}
 use mathlib.Core.Path.{sym, subst}
-use Prim.Native.Nat.{◌-◌}
 use native.Mathlib.Omega.{arith}
 use Rattle.graphs.specs.Graph.{Node, symbol_node}
 use Rattle.table.specs.Table.{graph_of}
@@ -24,12 +22,12 @@ child-right-requires c = (c.requires.0.readable, omega (arith, c.degree-count.en
 
 pub meet-requires : goal.meet-requires
 meet-requires c = (
-      c.requires.0,
-      going_state c.loop-i.invariant,
-      subst (Node (graph_of c.args.table.now)) (sym c.child-left.ensures) (child_node _ c.requires.0.well_formed _ _ (omega (arith, c.degree-count.ensures))),
-      subst (Node (graph_of c.args.table.now)) (sym c.child-right.ensures)
-          (child_node _ c.requires.0.well_formed _ _ (omega (arith, c.degree-count.ensures, one_symbol_degree _ c.requires.0.well_formed c.requires.2))),
-    )
+  c.requires.0,
+  going_state c.loop-i.invariant,
+  subst (Node (graph_of c.args.table.now)) (sym c.child-left.ensures) (child_node _ c.requires.0.well_formed _ _ (omega (arith, c.degree-count.ensures))),
+  subst (Node (graph_of c.args.table.now)) (sym c.child-right.ensures)
+      (child_node _ c.requires.0.well_formed _ _ (omega (arith, c.degree-count.ensures, one_symbol_degree _ c.requires.0.well_formed c.requires.2))),
+)
 
 pub returns-in_default : goal.returns-in_default
 returns-in_default c = going_stops c.loop-i.invariant (omega (arith, c.degree-count.ensures)) c.child-left.ensures c.child-right.ensures c.meet.ensures c.in_default.is

@@ -1,6 +1,5 @@
 -- `cycles::search::from_each` meets its contract. The loop's invariant is `Swept`: all names below x are begun, and no cycle was found. The
 -- measure is what is left of the table. Assumes nothing.
-use Prim.Native.Nat.{◌-◌}
 use native.Mathlib.Omega.{arith}
 use Rattle.cycles.proofs.Roots.{swept_none, visit_found, visit_passed, swept_all}
 use Rattle.cycles.proofs.search.from_each.Goals as goal

@@ -1,7 +1,6 @@
 -- `host::report::put_classes` meets its contract.
 -- Assumes nothing.
 use mathlib.Core.Path.{refl}
-use Prim.Native.Nat.{◌-◌}
 use native.Mathlib.Omega.{arith}
 use Rattle.host.proofs.ReportLaws.{reporting_none, reporting_more, reporting_all}
 use Rattle.host.proofs.report.put_classes.Goals as goal

@@ -1,7 +1,6 @@
 -- `host::sizes::read_sizes` meets its contract.
 -- Assumes nothing.
 use native.Mathlib.Omega.{arith}
-use borrow.Author.Rules.{rules}
 use Rattle.host.proofs.SizesLaws.{sizes_refused, accepted_file, sizes_short, sizes_copied}
 use Rattle.host.proofs.sizes.read_sizes.Goals as goal
 

@@ -1,13 +1,11 @@
 -- `matcher::first_failure::first_cycle` meets its contract. The loop's invariant: the first `none` pairs have no cycle, and the first
 -- `some` have one. The distance between the two falls. Assumes nothing.
 use mathlib.Core.Path.{ap}
-use Prim.Native.Nat.{◌-◌}
 use native.Mathlib.Omega.{arith}
 use lib.ListN.{length}
-use borrow.Author.Rules.{rules}
 use Rattle.table.proofs.Pairs.{length-pairs_of}
 use Rattle.matcher.proofs.FirstPairs.{standing_after}
-use Rattle.matcher.proofs.Halving.{fewer_clashless, halved_start, lower_half, upper_half, halved_end}
+use Rattle.matcher.proofs.Halving.{fewer_clashless, halved_start, lower_half, halved_end}
 use Rattle.matcher.proofs.first_failure.first_cycle.Goals as goal
 
 pub loop-none-init : goal.loop-none-init

@@ -23,10 +23,10 @@ returns-then-joined-list c = clash_verdict c.requires.1 (standing_after c.requir
 
 pub count_joins-joins-requires : goal.count_joins-joins-requires
 count_joins-joins-requires c = (
-      search rules,
-      search rules,
-      row_names_nodes (standing_after c.requires.0 c.join_until_clash-joined.ensures.lent) c.join_until_clash-joined.ensures.inside c.join_until_clash-joined.ensures.partitioned,
-    )
+  search rules,
+  search rules,
+  row_names_nodes (standing_after c.requires.0 c.join_until_clash-joined.ensures.lent) c.join_until_clash-joined.ensures.inside c.join_until_clash-joined.ensures.partitioned,
+)
 
 pub returns : goal.returns
 returns c = accepted_verdict c.requires.1 (standing_after c.requires.0 c.join_until_clash-joined.ensures.lent) c.join_until_clash-joined.ensures (told c.reaches_itself.ensures c.if-reaches_itself.false)

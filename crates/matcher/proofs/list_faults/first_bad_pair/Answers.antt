@@ -1,5 +1,4 @@
 -- `matcher::list_faults::first_bad_pair` meets its contract: no pair passed has a bad side. Assumes nothing.
-use Prim.Native.Nat.{◌-◌}
 use native.Mathlib.Omega.{arith}
 use Rattle.shape.proofs.Search.{passed_none, passed_more, found_here, found_nowhere}
 use Rattle.matcher.proofs.ListLaws.{half_entries}

@@ -1,5 +1,4 @@
 -- `shape::layout_fault::after` meets its contract: one case a thing wanted. Assumes nothing.
-use mathlib.Core.List.{[], ◌∷◌}
 use mathlib.Core.Path.{sym, ap, ◌∙◌}
 use mathlib.Core.Bool.{Bool, cond}
 use Rattle.words.specs.Word.{same_kind}

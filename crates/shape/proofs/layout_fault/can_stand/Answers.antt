@@ -1,7 +1,5 @@
 -- `shape::layout_fault::can_stand` meets its contract: one case a thing wanted. Assumes nothing.
-use mathlib.Core.List.{[], ◌∷◌}
 use mathlib.Core.Path.{sym}
-use Rattle.words.specs.declared.kind.Kind.TheVariants.{Count}
 use Rattle.words.proofs.KindLaws.{other_kind}
 use Rattle.table.specs.Layout.{can_stand}
 use Rattle.shape.proofs.layout_fault.can_stand.Goals as goal

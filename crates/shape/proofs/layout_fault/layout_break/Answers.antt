@@ -1,7 +1,6 @@
 -- `shape::layout_fault::layout_break` meets its contract: the row breaks where the rest of it breaks, from where the scan has come to. Assumes nothing.
 use borrow.Author.Tests.{not-true, not-false}
 use mathlib.Core.Path.{refl}
-use Prim.Native.Nat.{◌-◌}
 use Rattle.shape.proofs.LayoutLaws.{scan_stops, scan_stands, scan_ends}
 use Rattle.shape.proofs.layout_fault.layout_break.Goals as goal
 

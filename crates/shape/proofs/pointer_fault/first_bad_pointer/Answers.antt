@@ -1,5 +1,4 @@
 -- `shape::pointer_fault::first_bad_pointer` meets its contract: no word passed is a bad pointer. Assumes nothing.
-use Prim.Native.Nat.{◌-◌}
 use Rattle.shape.proofs.Search.{passed_none, passed_more, found_here, found_nowhere}
 use Rattle.shape.proofs.pointer_fault.first_bad_pointer.Goals as goal
 

@@ -1,6 +1,4 @@
 -- `shape::pointer_fault::is_bad_pointer` meets its contract, by one law a branch. Assumes nothing.
-use mathlib.Core.List.{[], ◌∷◌}
-use Rattle.words.specs.declared.kind.Kind.TheVariants.{Pointer}
 use Rattle.shape.proofs.WordLaws.{pointer_there, pointer_elsewhere}
 use Rattle.shape.proofs.pointer_fault.is_bad_pointer.Goals as goal
 

@@ -1,5 +1,4 @@
 -- `shape::word_fault::first_bad_word` meets its contract: no word passed is bad. Assumes nothing.
-use Prim.Native.Nat.{◌-◌}
 use Rattle.shape.proofs.Search.{passed_none, passed_more, found_here, found_nowhere}
 use Rattle.shape.proofs.word_fault.first_bad_word.Goals as goal
 
