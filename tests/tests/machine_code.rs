@@ -290,6 +290,19 @@ fn a_stack_that_cannot_be_told_is_refused() {
 
 // ---- the frame that is probed in a loop
 
+/// A frame that grows in the middle, as in the start-up code of a program.
+const GROWTH: [&str; 9] = [
+    "mov %rsp,%rsi",
+    "sub $0x90,%rsi",
+    "cmp %rsp,%rsi",
+    "jge 9",
+    "xorq $0x0,(%rsp)",
+    "sub $0xc00,%rsp",
+    "cmp %rsp,%rsi",
+    "jl 5",
+    "mov %rsi,%rsp",
+];
+
 const PROBE: [&str; 6] = [
     "mov %rsp,%r11",
     "sub $0x9000,%r11",
@@ -315,6 +328,42 @@ fn frames_are_probed_before_anything_is_tested() {
             println!("{}: {probe} bytes are probed in a loop", function.name);
         }
         assert_eq!(probes::misplaced(function), None);
+    }
+}
+
+#[test]
+fn a_frame_that_grows_is_told_apart() {
+    let told = |k: usize, other: &'static str| {
+        let mut all = vec!["je 10"];
+        all.extend(GROWTH);
+        all.push("leave");
+        all.push("ret");
+        all[1 + k] = other;
+        let listing = planted(&[("f", &all)]);
+        // the stack of it is not known
+        assert!(stack::most(&listing).is_err());
+        probes::misplaced(&listing.functions[0])
+    };
+    assert_eq!(told(0, GROWTH[0]), None);
+    for (k, other) in [
+        (0, "mov %rsp,%rdi"),
+        (1, "sub $0x90,%rdi"),
+        (1, "sub %rax,%rsi"),
+        (3, "jge 8"),
+        (4, "nop"),
+        (5, "sub $0x2000,%rsp"),
+        (5, "sub %rax,%rsp"),
+        (7, "jl 6"),
+        (8, "mov %rdi,%rsp"),
+    ] {
+        let not_understood = "a frame is made in a way that is not understood";
+        let wrong = told(k, other);
+        assert!(
+            wrong
+                .as_deref()
+                .map_or(false, |w| w.ends_with(not_understood)),
+            "{other}"
+        );
     }
 }
 

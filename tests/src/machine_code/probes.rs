@@ -37,6 +37,45 @@ pub fn probed(function: &Function, i: usize) -> Option<u64> {
     (looks_so && reaches).then_some(size)
 }
 
+/// How many instructions a frame has that grows in the middle of a function.
+pub const GROWTH: usize = 9;
+
+/// Whether a frame grows from here on by a size that is known only there, as in the start-up code that the
+/// kit puts before a program: it tells so where the processor is too old. The loop's end is in a register
+/// that was chosen for it as for any other value, so that nothing is lost.
+pub fn grows(function: &Function, i: usize) -> bool {
+    let all = match function.instructions.get(i..i + GROWTH) {
+        Some(all) => all,
+        None => return false,
+    };
+    let is = |k: usize, mnemonic: &str, operands: [&str; 2]| {
+        let instruction: &Instruction = &all[k];
+        instruction.mnemonic == mnemonic && instruction.operands == operands
+    };
+    let leads = |k: usize, mnemonic: &str, to: usize| {
+        all[k].mnemonic == mnemonic && all[k].leads_to() == Some(all[to].at)
+    };
+    let second = |k: usize| all[k].operands.get(1).map_or("", String::as_str);
+    let by = |k: usize| all[k].operands.first().and_then(|o| number(o));
+    let end = second(0);
+    let step = by(5).unwrap_or(0);
+    is(0, "mov", ["%rsp", end])
+        && end.starts_with("%r")
+        && end != "%rsp"
+        && all[1].mnemonic == "sub"
+        && by(1).is_some()
+        && second(1) == end
+        && is(2, "cmp", ["%rsp", end])
+        && leads(3, "jge", 8)
+        && is(4, "xorq", ["$0x0", "(%rsp)"])
+        && all[5].mnemonic == "sub"
+        && second(5) == "%rsp"
+        && (1..=PAGE).contains(&step)
+        && is(6, "cmp", ["%rsp", end])
+        && leads(7, "jl", 4)
+        && is(8, "mov", [end, "%rsp"])
+}
+
 fn compares_the_stack_pointer(instruction: &Instruction) -> bool {
     instruction.mnemonic.starts_with("cmp") && instruction.operands.iter().any(|o| o == "%rsp")
 }
@@ -49,9 +88,11 @@ pub fn misplaced(function: &Function) -> Option<String> {
     let places: Vec<usize> = (0..all.len())
         .filter(|&i| probed(function, i).is_some())
         .collect();
-    // Nothing but such a loop compares the stack pointer.
+    let growths: Vec<usize> = (0..all.len()).filter(|&i| grows(function, i)).collect();
+    // Nothing but such loops compares the stack pointer.
     for i in (0..all.len()).filter(|&i| compares_the_stack_pointer(&all[i])) {
-        if !places.iter().any(|&k| i == k + 4) {
+        let grown = growths.iter().any(|&k| i == k + 2 || i == k + 6);
+        if !grown && !places.iter().any(|&k| i == k + 4) {
             return Some(told_at(
                 i,
                 "a frame is made in a way that is not understood",
