@@ -10,7 +10,7 @@
 --     cut_not_good               the front of a good file is not good
 --     read_sizes, read_count, read_length    which sizes count, that they are at most 128, and how long their row is
 --
--- Two results that a public contract allows are equal: `read_only_lem` and `bodies_only` (ReaderLaws.antt), `write_only`
+-- Two results that a public contract allows are equal: `read_only` and `bodies_only` (ReaderLaws.antt), `write_only`
 -- (WriteAnswers.antt). Assumes nothing.
 use mathlib.Core.Path.{◌≡◌, refl, sym, ap, ap₂, ◌∙◌, subst}
 use mathlib.Core.List.{List, ◌++◌}
