@@ -1,7 +1,6 @@
 -- `checker::sound::after_block` meets its contract: a count, and then its arguments. Assumes nothing.
 use mathlib.Core.Path.{sym, ◌∙◌}
 use native.Mathlib.Omega.{arith}
-use borrow.Author.Tests.{not-false}
 use Rattle.checker.proofs.NameLaws.{stays_same}
 use Rattle.checker.proofs.WalkLaws.{nowhere, count_chained, next_arguments}
 use Rattle.checker.proofs.sound.after_block.Goals as goal
@@ -17,7 +16,7 @@ returns-then-table-end c = nowhere (stays_same _ _)
 
 pub are_sound_arguments-requires : goal.are_sound_arguments-requires
 are_sound_arguments-requires c = (
-  count_chained c.requires.0 (sym c.is_sound_count.ensures ∙ not-false _ c.if-not-is_sound_count.false-raw),
+  count_chained c.requires.0 (sym c.is_sound_count.ensures ∙ c.if-not-is_sound_count.false),
   omega arith,
   omega arith,
   omega arith,
@@ -28,5 +27,5 @@ returns-then-not-are_sound_arguments c = nowhere c.are_sound_arguments.ensures.s
 
 pub returns : goal.returns
 returns c = next_arguments c.args.table.now c.args.at c.requires.1 c.if-table-at.false
-    (sym c.is_sound_count.ensures ∙ not-false _ c.if-not-is_sound_count.false-raw) (omega (arith, c.content.ensures))
-    c.are_sound_arguments.ensures (not-false _ c.if-not-are_sound_arguments.false-raw)
+    (sym c.is_sound_count.ensures ∙ c.if-not-is_sound_count.false) (omega (arith, c.content.ensures))
+    c.are_sound_arguments.ensures c.if-not-are_sound_arguments.false

@@ -1,7 +1,6 @@
 -- `checker::sound::are_sound_arguments` meets its contract: the walk has come to `at`, and as many
 -- arguments are to come as words are left. Assumes nothing.
 use native.Mathlib.Omega.{arith}
-use borrow.Author.Tests.{not-false}
 use Rattle.checker.proofs.WalkLaws.{arguments_none, arguments_more, arguments_stop, arguments_all}
 use Rattle.checker.proofs.sound.are_sound_arguments.Goals as goal
 
@@ -19,7 +18,7 @@ pub shape_of-work-then-not-is_sound_argument : goal.shape_of-work-then-not-is_so
 shape_of-work-then-not-is_sound_argument c = (arguments_stop c.loop-at.invariant c.is_sound_argument.ensures).stays.same_length
 
 pub loop-at-preserved : goal.loop-at-preserved
-loop-at-preserved c = arguments_more c.loop-at.invariant c.is_sound_argument.ensures c.requires.1 c.loop-at-test.true c.requires.3 (not-false _ c.if-not-is_sound_argument.false-raw)
+loop-at-preserved c = arguments_more c.loop-at.invariant c.is_sound_argument.ensures c.requires.1 c.loop-at-test.true c.requires.3 c.if-not-is_sound_argument.false
 
 pub returns : goal.returns
 returns c = arguments_all c.loop-at.invariant c.loop-at-test.false

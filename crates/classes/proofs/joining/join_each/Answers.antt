@@ -2,7 +2,6 @@
 -- Assumes nothing.
 use mathlib.Core.Path.{refl}
 use native.Mathlib.Omega.{arith}
-use borrow.Author.Tests.{not-true, not-false}
 use Rattle.table.proofs.Pairs.{length-pairs_of, length-pairs_of_over}
 use Rattle.classes.proofs.OneByOne.{begins, joins_on, clashes_here, clash_found, all_met, side_nodes}
 use Rattle.classes.proofs.joining.join_each.Goals as goal
@@ -15,10 +14,10 @@ join_pair-requires c = let n : _ = side_nodes c.args.table.now c.args.list.now c
     (c.requires.0, c.loop-i.invariant.state, n.0, n.1)
 
 pub returns-then-not-join_pair : goal.returns-then-not-join_pair
-returns-then-not-join_pair c = clash_found (clashes_here c.loop-i.invariant (omega (arith, length-pairs_of_over c.args.list.now)) refl refl c.join_pair.ensures c.requires.0 c.requires.2 (not-true _ c.if-not-join_pair.true-raw))
+returns-then-not-join_pair c = clash_found (clashes_here c.loop-i.invariant (omega (arith, length-pairs_of_over c.args.list.now)) refl refl c.join_pair.ensures c.requires.0 c.requires.2 c.if-not-join_pair.true)
 
 pub loop-i-preserved : goal.loop-i-preserved
-loop-i-preserved c = joins_on c.loop-i.invariant (omega (arith, length-pairs_of_over c.args.list.now)) refl refl c.join_pair.ensures (not-false _ c.if-not-join_pair.false-raw)
+loop-i-preserved c = joins_on c.loop-i.invariant (omega (arith, length-pairs_of_over c.args.list.now)) refl refl c.join_pair.ensures c.if-not-join_pair.false
 
 pub returns : goal.returns
 returns c = all_met c.loop-i.invariant (omega (arith, length-pairs_of c.args.list.now))

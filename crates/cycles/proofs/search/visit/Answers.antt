@@ -1,6 +1,7 @@
 -- `cycles::search::visit` meets its contract: x is passed over, or what the search from a root says is a case of what a visit says. Assumes
 -- nothing.
-use mathlib.Core.Path.{◌∙◌}
+use mathlib.Core.Bool.{not}
+use mathlib.Core.Path.{ap, ◌∙◌}
 use native.Mathlib.Omega.{arith}
 use Rattle.cycles.proofs.Answers.{no_edges_safe, begun_safe}
 use Rattle.cycles.proofs.Passing.{no_function_no_edges}
@@ -8,7 +9,7 @@ use Rattle.cycles.proofs.Roots.{visited, passed_over}
 use Rattle.cycles.proofs.search.visit.Goals as goal
 
 pub returns-then-not-has_edges : goal.returns-then-not-has_edges
-returns-then-not-has_edges c = passed_over c.args.class.now c.requires.1 (λ own. no_edges_safe _ c.args.x (no_function_no_edges c.args.table.now c.args.x c.has_edges.ensures c.if-not-has_edges.true-raw))
+returns-then-not-has_edges c = passed_over c.args.class.now c.requires.1 (λ own. no_edges_safe _ c.args.x (no_function_no_edges c.args.table.now c.args.x c.has_edges.ensures (ap not c.if-not-has_edges.true)))
 
 pub returns-then-at-ne0 : goal.returns-then-at-ne0
 returns-then-at-ne0 c = passed_over c.args.class.now c.requires.1 (λ own. begun_safe c.requires.1 c.args.x c.requires.2 (omega (arith, c.at.ensures.0, c.if-at-ne0.true)))

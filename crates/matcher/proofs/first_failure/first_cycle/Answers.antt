@@ -26,17 +26,6 @@ loop-none-smaller-then-has_cycle c = omega (arith, c.loop-none.invariant.apart)
 pub loop-none-preserved-then-has_cycle : goal.loop-none-preserved-then-has_cycle
 loop-none-preserved-then-has_cycle c = lower_half c.loop-none.invariant c.has_cycle.ensures (omega (arith, c.loop-none.invariant.apart)) (omega (arith, c.loop-none.invariant.apart)) c.if-has_cycle.true
 
--- ?? loop-less-2 : tie.Need-loop-smaller-2 invariant-loop decreases-loop
--- loop-less-2 c =
---     let o : tie.At-loop invariant-loop decreases-loop = search rules in
---     omega (arith, o.loop.inv.apart)
-
--- ?? loop-again-2 : tie.Need-loop-preserved-2 invariant-loop decreases-loop
--- loop-again-2 c =
---     let o : tie.At-loop invariant-loop decreases-loop = search rules in
---     let h : tie.After-has-cycle invariant-loop decreases-loop = search rules in
---     upper_half o.loop.inv h.has-cycle.ensures (omega (arith, o.loop.inv.apart)) (omega (arith, o.loop.inv.apart)) c.if1.false
-
 pub overflow_cast-result : goal.overflow_cast-result
 overflow_cast-result c = omega (arith, c.loop-none.invariant.within, c.requires.1.inside, length-pairs_of c.args.list.now, c.requires.0.ready.few)
 

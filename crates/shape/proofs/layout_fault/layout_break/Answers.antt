@@ -1,5 +1,4 @@
 -- `shape::layout_fault::layout_break` meets its contract: the row breaks where the rest of it breaks, from where the scan has come to. Assumes nothing.
-use borrow.Author.Tests.{not-true, not-false}
 use mathlib.Core.Path.{refl}
 use Rattle.shape.proofs.LayoutLaws.{scan_stops, scan_stands, scan_ends}
 use Rattle.shape.proofs.layout_fault.layout_break.Goals as goal
@@ -9,11 +8,11 @@ loop-at-init c = record { same = refl }
 
 pub returns-then-not-can_stand : goal.returns-then-not-can_stand
 returns-then-not-can_stand c = scan_stops c.loop-at.invariant c.loop-at-test.true
-    c.kind.ensures c.can_stand.ensures (not-true _ c.if-not-can_stand.true-raw)
+    c.kind.ensures c.can_stand.ensures c.if-not-can_stand.true
 
 pub loop-at-preserved : goal.loop-at-preserved
 loop-at-preserved c = scan_stands c.loop-at.invariant c.loop-at-test.true
-    c.kind.ensures c.can_stand.ensures (not-false _ c.if-not-can_stand.false-raw) c.after-wanted.ensures
+    c.kind.ensures c.can_stand.ensures c.if-not-can_stand.false c.after-wanted.ensures
 
 pub returns : goal.returns
 returns c = scan_ends c.loop-at.invariant c.loop-at-test.false c.end.ensures
