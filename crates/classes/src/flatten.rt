@@ -24,9 +24,7 @@ pub fn flatten(table: &[u32], class: &mut [u16])
     requires { Forest table.now class.old × (length table.now ≤ most_words) }
     ensures { Flattened table.now class.old class.new }
 {
-    let mut x = 0;
-    while x < table.len() {
+    for x in 0..table.len() {
         lead_to_root(table, class, Address(x as u16));
-        x += 1;
     }
 }
