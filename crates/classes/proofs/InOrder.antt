@@ -7,6 +7,7 @@ use Prim.Native.Nat.{ℕ, ◌≤◌, ◌<◌}
 use native.Mathlib.Decide.{ℕ_discrete}
 use native.Mathlib.Omega.{arith}
 use Rattle.std.specs.Prelude.{Result}
+use Rattle.words.specs.declared.numbers.Address.{Address}
 use Rattle.graphs.specs.Partition.{Pair, Same, swapped, key}
 use Rattle.table.specs.Readable.{PassedCheck}
 use Rattle.table.specs.Table.{graph_of}
@@ -70,13 +71,12 @@ pub meets_turned : {t row work : List ℕ} {waiting a b : ℕ} {row_after work_a
     → Meets t row work waiting b a row_after work_after turn → Meets t row work waiting a b row_after work_after turn
 meets_turned {a} {b} state m owed = turned_after (turned_pair a b owed state) (m owed)
 
--- ---- two roots under other names
+-- ---- two roots in a pair
 
-pub ordered_as : {t row : List ℕ} {a b name later : ℕ} → name ≡ a → later ≡ b → Ordered t row a b → Ordered t row name later
-ordered_as {t} {row} {b} {name} e f o = subst (Ordered t row name) (sym f) (subst (λ (x : ℕ). Ordered t row x b) (sym e) o)
+pub ordered_as : {t row : List ℕ} {p : Address × Address} {a b : Address} → p ≡ (a, b) → Ordered t row a.0 b.0 → Ordered t row p.0.0 p.1.0
+ordered_as {t} {row} e o = subst (λ (q : Address × Address). Ordered t row q.0.0 q.1.0) (sym e) o
 
-pub meets_as : {t row work : List ℕ} {waiting : ℕ} {a b name later : ℕ} {row_after work_after : List ℕ} {turn : Result ℕ ClashMet} → name ≡ a → later ≡ b
-    → Meets t row work waiting name later row_after work_after turn → Meets t row work waiting a b row_after work_after turn
-meets_as {t} {row} {work} {waiting} {a} {later} {row_after} {work_after} {turn} e f m =
-    subst (λ (x : ℕ). Meets t row work waiting a x row_after work_after turn) f
-    (subst (λ (x : ℕ). Meets t row work waiting x later row_after work_after turn) e m)
+pub meets_as : {t row work : List ℕ} {waiting : ℕ} {p : Address × Address} {a b : Address} {row_after work_after : List ℕ} {turn : Result ℕ ClashMet} → p ≡ (a, b)
+    → Meets t row work waiting p.0.0 p.1.0 row_after work_after turn → Meets t row work waiting a.0 b.0 row_after work_after turn
+meets_as {t} {row} {work} {waiting} {row_after} {work_after} {turn} e m =
+    subst (λ (q : Address × Address). Meets t row work waiting q.0.0 q.1.0 row_after work_after turn) e m

@@ -13,7 +13,7 @@ fn lead_to_root(table: &[u32], class: &mut [u16], x: Address)
 {
     let above = forest::up(class, x);
     let higher = forest::up(class, above);
-    if higher.0 != above.0 {
+    if higher != above {
         let name = forest::root(table, class, x);
         class[x.0 as usize] = name.0;
     }

@@ -95,7 +95,7 @@ pub fn meet(
 {
     let a = forest::root(table, class, left);
     let b = forest::root(table, class, right);
-    if a.0 == b.0 {
+    if a == b {
         return Ok(waiting);
     }
     meet_roots(table, class, work, waiting, a, b)
