@@ -10,8 +10,7 @@ use Prim.Native.Nat.{ℕ, zero, suc, ◌+◌, ◌*◌, ◌≤◌, ◌<◌}
 use native.Mathlib.Omega.{arith}
 use lib.ListN.{length, get_or, set, take}
 use lib.Seq.{take-length}
-use Rattle.std.specs.Prelude.{true, false, Result, Ok, Err, is_err}
-use Rattle.words.specs.declared.numbers.PairNumber.{PairNumber}
+use Rattle.std.specs.Prelude.{true, false, Result, Ok, is_err}
 use Rattle.graphs.specs.Graph.{Node}
 use Rattle.graphs.specs.Partition.{Pair, pairs_of, ◌∈◌, Sides, Same, paired, Clash}
 use Rattle.graphs.proofs.Classes.{same_grows, first_pairs_grow}
@@ -22,7 +21,7 @@ use Rattle.table.proofs.Pairs.{pair_at_entries}
 use Rattle.classes.specs.Steps.Forest.{Forest}
 use Rattle.classes.specs.declared.meet.Clash.{Clash as ClashMet}
 use Rattle.classes.specs.Steps.Meeting.{State, Within, Agrees, Complete, Settled}
-use Rattle.classes.specs.Steps.Lists.{JoinsPair, resting, Holding, JoinedBefore, ClashesAt, EachJoined, each_joined, one_clashes}
+use Rattle.classes.specs.Steps.Lists.{JoinsPair, resting, Holding, JoinedBefore, ClashesAt, EachJoined, each_joined}
 use Rattle.classes.proofs.Links.{shorter_none, root_exists}
 use Rattle.classes.proofs.Flat.{Flat, led_now, flat_none, flat_forest, flat_more, flat_all}
 use Rattle.classes.proofs.Moves.{kept_none, kept_join, all_done, clash_done}

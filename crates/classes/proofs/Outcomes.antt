@@ -3,8 +3,8 @@ use mathlib.Core.Path.{◌≡◌, ap, ◌∙◌, subst}
 use mathlib.Core.Logic.{⊎_elim}
 use mathlib.Core.List.Memᴰ
 use mathlib.Core.List.{List, ◌++◌}
-use Prim.Native.Nat.{ℕ, ◌+◌, ◌*◌, ◌≤◌, ◌<◌}
-use lib.ListN.{length, take, drop, replicate}
+use Prim.Native.Nat.{ℕ, ◌*◌}
+use lib.ListN.{length, take, replicate}
 use lib.Seq.{take-length}
 use Rattle.std.specs.Prelude.{Result, Ok, Err}
 use Rattle.words.specs.declared.numbers.PairNumber.{PairNumber}

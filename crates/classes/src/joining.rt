@@ -65,10 +65,10 @@ pub fn join(
 {
     let n = table.len();
     let joined = join_each(table, list, class, work);
-    rows::clear16(work, 2 * n);
+    work[..2 * n].fill(0);
     match joined {
         Ok(()) => flatten::flatten(table, class),
-        Err(_) => rows::clear16(class, n),
+        Err(_) => class[..n].fill(0),
     }
     joined
 }

@@ -77,7 +77,11 @@ fn meet_roots(
     requires { PassedCheck table.now × State table.now class.old work.old waiting × Roots table.now class.old a.0 b.0 }
     ensures { Meets table.now class.old work.old waiting a.0 b.0 class.new work.new result }
 {
-    let (name, later) = if key(table, a) < key(table, b) { (a, b) } else { (b, a) };
+    let (name, later) = if key(table, a) < key(table, b) {
+        (a, b)
+    } else {
+        (b, a)
+    };
     meet_ordered(table, class, work, waiting, name, later)
 }
 

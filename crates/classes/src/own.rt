@@ -12,7 +12,11 @@ pub fn apart(table: &[u32], class: &mut [u16])
     ensures { class.new ≡ apart_in (graph_of table.now) ++ drop (length table.now) class.old }
 {
     for (x, word) in table.iter().enumerate() {
-        class[x] = if table::is_node_word(*word) { x as u16 } else { 0 };
+        class[x] = if table::is_node_word(*word) {
+            x as u16
+        } else {
+            0
+        };
     }
 }
 

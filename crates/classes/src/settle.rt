@@ -29,7 +29,12 @@ fn go_down(
 }
 
 // The last waiting pair goes down.
-fn settle_last(table: &[u32], class: &mut [u16], work: &mut [u16], waiting: usize) -> Result<usize, Clash>
+fn settle_last(
+    table: &[u32],
+    class: &mut [u16],
+    work: &mut [u16],
+    waiting: usize,
+) -> Result<usize, Clash>
     requires { PassedCheck table.now × State table.now class.old work.old waiting × (0 < waiting) }
     ensures { GoesDown table.now class.old work.old (waiting - 1) (waiting_left work.old (waiting - 1)) (waiting_right work.old (waiting - 1)) class.new work.new result }
 {
@@ -40,7 +45,12 @@ fn settle_last(table: &[u32], class: &mut [u16], work: &mut [u16], waiting: usiz
 }
 
 // Lets the waiting pairs go down, the last first, until none waits.
-pub fn settle(table: &[u32], class: &mut [u16], work: &mut [u16], waiting: usize) -> Result<(), Clash>
+pub fn settle(
+    table: &[u32],
+    class: &mut [u16],
+    work: &mut [u16],
+    waiting: usize,
+) -> Result<(), Clash>
     requires { PassedCheck table.now × State table.now class.old work.old waiting }
     ensures { Settles table.now class.old work.old waiting class.new work.new result }
 {
