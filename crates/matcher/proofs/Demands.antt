@@ -12,7 +12,6 @@ use Prim.Native.Nat.{ℕ, zero, suc, ◌+◌, ◌-◌, ◌≤◌, ◌<◌}
 use native.Mathlib.Omega.{arith}
 use lib.ListN.{length, take, drop}
 use lib.Seq.{take_at, take_all}
-use Rattle.std.specs.Prelude.{Result}
 use Rattle.answering.specs.Answers.{Answered, NoneOf}
 use Rattle.answering.proofs.LowestLaws.{neither_below}
 use Rattle.answering.proofs.Orders.{answered_only, passed_none, none_parts, rest_answers}
@@ -23,9 +22,7 @@ use Rattle.graphs.proofs.Theorems.{unifier_no_clash, unifier_no_cycle, no_pairs_
 use Rattle.table.specs.Table.{TableSymbols, graph_of}
 use Rattle.table.specs.Faults.{Job, FirstClash, FirstCycle, number, Fault, clash_fault, cycle_fault, check_order, list_rows, pair_rows, match_order}
 use Rattle.table.proofs.OneAnswer.{fault_once}
-use Rattle.matcher.specs.declared.answer.Counts.{Counts}
-use Rattle.matcher.specs.declared.answer.Refusal.{Refusal}
-use Rattle.matcher.specs.Match.{number_of, place_of, joins_of, AcceptedWith, job_of, MatchOf, Passes}
+use Rattle.matcher.specs.Match.{Matched, number_of, place_of, joins_of, AcceptedWith, job_of, MatchOf, Passes}
 use Rattle.matcher.specs.Demands.{Met, MetCounted, FirstUnmet}
 use Rattle.matcher.specs.Steps.PassedAll.{PassedAll}
 use Rattle.matcher.proofs.Verdicts.{ready, list_so_far, accepted_answered, clash_answered, cycle_answered}
@@ -70,14 +67,14 @@ module _ {job : Job} where
   which a p (inr (no_clash, inr (no_cycle, (z, e)))) = inl z
 
 -- What is accepted passes all checks.
-pub accepted_passes : {t list class work : List ℕ} {r : Result Counts Refusal} {class_after work_after : List ℕ} → MatchOf t list class work r class_after work_after
+pub accepted_passes : {t list class work : List ℕ} {r : Matched} {class_after work_after : List ℕ} → MatchOf t list class work r class_after work_after
     → number_of r ≡ 0 → Passes (job_of t list class work)
 unfolding number
 accepted_passes {t} {list} {class} {work} {r} m z =
     (none_parts (Fault (job_of t list class work)) (check_order ++ list_rows) pair_rows
     (passed_none number (Fault (job_of t list class work)) match_order (number_of r) (place_of r) refl z m.answered).0).0
 
-module _ {t list class work : List ℕ} {r : Result Counts Refusal} {class_after work_after : List ℕ} (m : MatchOf t list class work r class_after work_after) (passes : Passes (job_of t list class work)) where
+module _ {t list class work : List ℕ} {r : Matched} {class_after work_after : List ℕ} (m : MatchOf t list class work r class_after work_after) (passes : Passes (job_of t list class work)) where
   has : PassedAll (job_of t list class work)
   has = ready passes
 

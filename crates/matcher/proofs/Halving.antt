@@ -24,7 +24,6 @@ use Rattle.cycles.specs.Digraph.{Searchable, Searched}
 use Rattle.classes.specs.Counting.{NamesNodes}
 use Rattle.classes.proofs.CountedJoins.{front_names_nodes}
 use Rattle.classes.proofs.Counts.{count_same, own_node}
-use Rattle.matcher.specs.declared.answer.Counts.{Counts}
 use Rattle.matcher.specs.declared.answer.Refusal.{Refusal}
 use Rattle.matcher.specs.Match.{job_of, Passes}
 use Rattle.matcher.specs.Steps.PassedAll.{Cycles}

@@ -21,12 +21,11 @@ use Rattle.graphs.proofs.Theorems.{class_table_only}
 use Rattle.table.specs.Table.{graph_of}
 use Rattle.table.specs.Faults.{Job, sent, Fault, number, match_order}
 use Rattle.table.proofs.OneAnswer.{fault_once}
-use Rattle.matcher.specs.declared.answer.Counts.{Counts}
 use Rattle.matcher.specs.declared.answer.Refusal.{Refusal}
-use Rattle.matcher.specs.Match.{number_of, place_of, joins_of, job_of, MatchOf}
+use Rattle.matcher.specs.Match.{Matched, number_of, place_of, joins_of, job_of, MatchOf}
 
 -- the answer that has a number, a place and joins
-answer_with : ℕ → ℕ → ℕ → Result Counts Refusal
+answer_with : ℕ → ℕ → ℕ → Matched
 answer_with n p j =
     cond (eqb n 0) (Ok (record { joins = j }))
     (cond (leb n 7) (Err (Refusal.Table (fault_with n p)))
@@ -35,7 +34,7 @@ answer_with n p j =
     (cond (eqb n 10) (Err (Refusal.Clash (record { 0 = p })))
     (Err (Refusal.Cycle (record { 0 = p })))))))
 
-answer_by_numbers : (r : Result Counts Refusal) → answer_with (number_of r) (place_of r) (joins_of r) ≡ r
+answer_by_numbers : (r : Matched) → answer_with (number_of r) (place_of r) (joins_of r) ≡ r
 unfolding answer_with
 answer_by_numbers (Ok counts) = refl
 answer_by_numbers (Err (Refusal.Table fault)) =
@@ -47,7 +46,7 @@ answer_by_numbers (Err (Refusal.Clash k)) = refl
 answer_by_numbers (Err (Refusal.Cycle k)) = refl
 
 -- Answers of one number, one place and one count of joins are equal.
-pub numbers_fix_answer : (r s : Result Counts Refusal) → number_of r ≡ number_of s → place_of r ≡ place_of s → joins_of r ≡ joins_of s → r ≡ s
+pub numbers_fix_answer : (r s : Matched) → number_of r ≡ number_of s → place_of r ≡ place_of s → joins_of r ≡ joins_of s → r ≡ s
 numbers_fix_answer r s n p j =
     sym (answer_by_numbers r)
     ∙ ap (λ (k : ℕ). answer_with k (place_of r) (joins_of r)) n
@@ -55,12 +54,12 @@ numbers_fix_answer r s n p j =
     ∙ answer_by_numbers s
 
 -- "Joins is 0 on refusal."
-pub refused_joins : (r : Result Counts Refusal) → (number_of r ≡ 0 → ⊥) → joins_of r ≡ 0
+pub refused_joins : (r : Matched) → (number_of r ≡ 0 → ⊥) → joins_of r ≡ 0
 refused_joins (Ok counts) z = absurd (z refl)
 refused_joins (Err refusal) z = refl
 
 -- Two matches of one table and list on rows of the same lengths. What the rows held before does not count.
-module _ {t list class work class' work' : List ℕ} {r s : Result Counts Refusal} {class₁ work₁ class₂ work₂ : List ℕ} (class_long : length class ≡ length class') (work_long : length work ≡ length work') (a : MatchOf t list class work r class₁ work₁) (b : MatchOf t list class' work' s class₂ work₂) where
+module _ {t list class work class' work' : List ℕ} {r s : Matched} {class₁ work₁ class₂ work₂ : List ℕ} (class_long : length class ≡ length class') (work_long : length work ≡ length work') (a : MatchOf t list class work r class₁ work₁) (b : MatchOf t list class' work' s class₂ work₂) where
   same_numbers : (number_of r ≡ number_of s) × (place_of r ≡ place_of s)
   same_numbers =
       answered_only number (Fault (job_of t list class work)) (fault_once (job_of t list class work)) match_order (number_of r) (place_of r) (number_of s) (place_of s) a.answered
@@ -79,7 +78,7 @@ module _ {t list class work class' work' : List ℕ} {r s : Result Counts Refusa
   pub match_answer_only : r ≡ s
   match_answer_only = numbers_fix_answer r s same_numbers.0 same_numbers.1 (same_joins (ℕ_discrete (number_of r) 0))
 
-module _ {t list class work : List ℕ} {r s : Result Counts Refusal} {class₁ work₁ class₂ work₂ : List ℕ} (a : MatchOf t list class work r class₁ work₁) (b : MatchOf t list class work s class₂ work₂) where
+module _ {t list class work : List ℕ} {r s : Matched} {class₁ work₁ class₂ work₂ : List ℕ} (a : MatchOf t list class work r class₁ work₁) (b : MatchOf t list class work s class₂ work₂) where
   same_answer : r ≡ s
   same_answer = match_answer_only refl refl a b
 
@@ -87,11 +86,11 @@ module _ {t list class work : List ℕ} {r s : Result Counts Refusal} {class₁ 
   same_classes (yes z) =
       let y : number_of s ≡ 0 = sym (ap number_of same_answer) ∙ z in
       (a.bound z).row ∙ ap (λ (front : List ℕ). front ++ drop (length t) class) (same_tables refl refl a b z y) ∙ sym (b.bound y).row
-  same_classes (no z) = a.refused z ∙ ap (λ (q : Result Counts Refusal). left (number_of q) (length t) class) same_answer ∙ sym (b.refused (λ e. z (ap number_of same_answer ∙ e)))
+  same_classes (no z) = a.refused z ∙ ap (λ (q : Matched). left (number_of q) (length t) class) same_answer ∙ sym (b.refused (λ e. z (ap number_of same_answer ∙ e)))
 
   pub match_only : (r ≡ s) × (class₁ ≡ class₂) × (work₁ ≡ work₂)
   match_only = (
     same_answer,
     same_classes (ℕ_discrete (number_of r) 0),
-    a.work_left ∙ ap (λ (q : Result Counts Refusal). left (number_of q) (4 * length t) work) same_answer ∙ sym b.work_left,
+    a.work_left ∙ ap (λ (q : Matched). left (number_of q) (4 * length t) work) same_answer ∙ sym b.work_left,
   )

@@ -13,7 +13,7 @@ use native.Mathlib.Decide.{dec_lt}
 use native.Mathlib.Omega.{arith}
 use lib.ListN.{length, take}
 use lib.Seq.{take_all}
-use Rattle.std.specs.Prelude.{Option, Some, None, Err}
+use Rattle.std.specs.Prelude.{Option, Some, None, Ok, Err}
 use Rattle.words.specs.Limits.{most_entries}
 use Rattle.answering.specs.declared.fault.TableFault.{TableFault}
 use Rattle.answering.specs.Answers.{Found, Answered, NoneOf}
@@ -30,7 +30,6 @@ use Rattle.table.proofs.Pairs.{pair_place}
 use Rattle.table.proofs.Children.{kind_node}
 use Rattle.table.proofs.PassedCheck.{passed_check}
 use Rattle.table.proofs.OneAnswer.{check_off_list}
-use Rattle.checker.specs.declared.answer.Checked.{Checked}
 use Rattle.checker.specs.Check.{CheckOf}
 use Rattle.matcher.specs.declared.answer.Refusal.{Refusal}
 use Rattle.matcher.specs.Match.{job_of, MatchOf, Passes}
@@ -39,7 +38,7 @@ use Rattle.matcher.specs.Steps.PassedAll.{PassedAll}
 -- ---- the check's answer is the match's
 
 module _ {t class work : List ℕ} (list : List ℕ) {class_after work_after : List ℕ} where
-  pub check_refused : {fault : TableFault} → CheckOf t class work (Checked.Refused fault) class_after work_after → MatchOf t list class work (Err (Refusal.Table fault)) class_after work_after
+  pub check_refused : {fault : TableFault} → CheckOf t class work (Err fault) class_after work_after → MatchOf t list class work (Err (Refusal.Table fault)) class_after work_after
   check_refused {fault} c =
       record {
         answered =
@@ -53,7 +52,7 @@ module _ {t class work : List ℕ} (list : List ℕ) {class_after work_after : L
       is_refused : fault_number fault ≡ 0 → ⊥
       is_refused z = omega (arith, z, (known fault).1)
 
-  pub check_passed : CheckOf t class work Checked.Accepted class_after work_after → NoneOf (Fault (job_of t list class work)) check_order
+  pub check_passed : {done : Unit {0}} → CheckOf t class work (Ok done) class_after work_after → NoneOf (Fault (job_of t list class work)) check_order
   unfolding number
   check_passed c = (passed_none number (Fault (job_of t list class work)) check_order 0 0 refl refl (check_off_list t (length class) (length work) [] list 0 0 c.answered)).0
 

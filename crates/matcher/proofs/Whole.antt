@@ -7,7 +7,7 @@ use mathlib.Core.List.{List, [], ◌∷◌, ◌++◌}
 use Prim.Native.Nat.{ℕ, ◌+◌, ◌*◌, ◌≤◌, ◌<◌}
 use native.Mathlib.Omega.{arith}
 use lib.ListN.{length, drop, replicate}
-use Rattle.std.specs.Prelude.{Option, Some, None, Result, Err}
+use Rattle.std.specs.Prelude.{Option, Some, None, Ok, Err}
 use Rattle.words.specs.Limits.{most_entries}
 use Rattle.words.specs.declared.numbers.PairNumber.{PairNumber}
 use Rattle.rows.specs.Placed.{zeroed}
@@ -17,11 +17,9 @@ use Rattle.answering.specs.Buffers.{changes_nothing, left}
 use Rattle.answering.proofs.BufferLaws.{left-zeroed}
 use Rattle.graphs.specs.Partition.{pairs_of}
 use Rattle.table.specs.Faults.{Job, pair_at, bad_sides, LIST, Fault, number, check_order, match_order}
-use Rattle.checker.specs.declared.answer.Checked.{Checked}
-use Rattle.checker.specs.Check.{CheckOf}
-use Rattle.matcher.specs.declared.answer.Counts.{Counts}
+use Rattle.checker.specs.Check.{Checked, CheckOf}
 use Rattle.matcher.specs.declared.answer.Refusal.{Refusal}
-use Rattle.matcher.specs.Match.{number_of, place_of, joins_of, AcceptedWith, job_of, MatchOf, Passes}
+use Rattle.matcher.specs.Match.{Matched, number_of, place_of, joins_of, AcceptedWith, job_of, MatchOf, Passes}
 use Rattle.matcher.specs.Steps.PassedAll.{BadList}
 use Rattle.matcher.specs.Steps.FirstFailure.{Standing, TablePassed, Verdict}
 use Rattle.matcher.proofs.Verdicts.{check_passed, list_answered, list_clear, side_answered, passes_all, ready}
@@ -34,7 +32,7 @@ check_is {t} {class} {work} {class₁} {work₁} c e = subst (λ (a : Checked). 
 job_same : (t list class work class₁ work₁ : List ℕ) → length class₁ ≡ length class → length work₁ ≡ length work → job_of t list class₁ work₁ ≡ job_of t list class work
 job_same t list class work class₁ work₁ ec ew = λ i. record { table = t; list = list; class_room = ec i; work_room = ew i }
 
-module _ {t class work class₁ work₁ : List ℕ} (list : List ℕ) (check : CheckOf t class work Checked.Accepted class₁ work₁) (class_long : length class₁ ≡ length class) (work_long : length work₁ ≡ length work) where
+module _ {t class work class₁ work₁ : List ℕ} {done : Unit {0}} (list : List ℕ) (check : CheckOf t class work (Ok done) class₁ work₁) (class_long : length class₁ ≡ length class) (work_long : length work₁ ≡ length work) where
   class_zero : class₁ ≡ zeroed (length t) class
   unfolding left changes_nothing
   class_zero = check.class_left
@@ -52,7 +50,7 @@ module _ {t class work class₁ work₁ : List ℕ} (list : List ℕ) (check : C
       }
 
   -- What a verdict says of the cleared rows, a match says of the rows as they were lent.
-  pub verdict_match : {answer : Result Counts Refusal} {class_after work_after : List ℕ} → Verdict t list class₁ work₁ answer class_after work_after → MatchOf t list class work answer class_after work_after
+  pub verdict_match : {answer : Matched} {class_after work_after : List ℕ} → Verdict t list class₁ work₁ answer class_after work_after → MatchOf t list class work answer class_after work_after
   verdict_match {answer} {class_after} v =
       record {
         answered = subst (λ (job : Job). Answered number (Fault job) match_order (number_of answer) (place_of answer)) (job_same t list class work class₁ work₁ class_long work_long) v.answered;

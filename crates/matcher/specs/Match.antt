@@ -2,6 +2,7 @@
 -- Assumes nothing.
 use Rattle.std.specs.Prelude.{◌≡◌, Result, Ok, Err, List, ◌++◌, ℕ, ◌*◌, length, drop}
 use Rattle.answering.specs.Answers.{Answered, NoneOf}
+use Rattle.answering.specs.Refused.{zero_unless_refused}
 use Rattle.answering.specs.TableFaults.{number_of as fault_number, place_of as fault_place}
 use Rattle.answering.specs.Buffers.{left}
 use Rattle.graphs.specs.Partition.{pairs_of, ClassTable, joins}
@@ -12,6 +13,10 @@ use Rattle.matcher.specs.declared.answer.Refusal.{Refusal}
 use Rattle.matcher.specs.declared.answer.Refusal.TheVariants.{Table, List as Entries, Side, Clash, Cycle}
 
 -- ---- the numbers of an answer
+
+-- The list is accepted, with what is counted of it, or refused.
+abbrev pub Matched : Type 0
+Matched = Result Counts Refusal
 
 abbrev pub refusal_number : Refusal → ℕ
 refusal_number (Table fault) = fault_number fault
@@ -27,16 +32,14 @@ refusal_place (Side k) = k.0
 refusal_place (Clash k) = k.0
 refusal_place (Cycle k) = k.0
 
-abbrev pub number_of : Result Counts Refusal → ℕ
-number_of (Ok counts) = 0
-number_of (Err refusal) = refusal_number refusal
+abbrev pub number_of : Matched → ℕ
+number_of = zero_unless_refused refusal_number
 
-abbrev pub place_of : Result Counts Refusal → ℕ
-place_of (Ok counts) = 0
-place_of (Err refusal) = refusal_place refusal
+abbrev pub place_of : Matched → ℕ
+place_of = zero_unless_refused refusal_place
 
 -- "Joins is 0 on refusal."
-abbrev pub joins_of : Result Counts Refusal → ℕ
+abbrev pub joins_of : Matched → ℕ
 joins_of (Ok counts) = counts.joins
 joins_of (Err refusal) = 0
 
@@ -53,7 +56,7 @@ abbrev pub job_of : List ℕ → List ℕ → List ℕ → List ℕ → Job
 job_of t list class work = sent t list (length class) (length work)
 
 -- "Each match returns answer, place and joins."
-pub record MatchOf (t list class work : List ℕ) (answer : Result Counts Refusal) (class_after work_after : List ℕ) : Type 0 where
+pub record MatchOf (t list class work : List ℕ) (answer : Matched) (class_after work_after : List ℕ) : Type 0 where
   pub answered : Answered number (Fault (job_of t list class work)) match_order (number_of answer) (place_of answer)
   pub bound : number_of answer ≡ 0 → AcceptedWith t list class class_after (joins_of answer)
   pub refused : (number_of answer ≡ 0 → ⊥) → class_after ≡ left (number_of answer) (length t) class

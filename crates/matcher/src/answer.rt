@@ -1,20 +1,20 @@
 // The answers of a match, and their numbers: "Each match returns answer, place and joins."
 ghost use Rattle.std.specs.Prelude.{◌≡◌};
-ghost use Rattle.matcher.specs.Match.{number_of, place_of, joins_of};
+ghost use Rattle.matcher.specs.Match.{refusal_number, refusal_place, joins_of};
 ghost use Rattle.matcher.specs.declared.answer.Refusal.TheVariants.{Table};
 
-use answering::fault;
+use answering::answer::Answer;
 use answering::fault::TableFault;
 use words::numbers::PairNumber;
 
 // What is counted of an accepted list.
-#[derive(Clone, Copy)]
+#[derive(Clone, Copy, PartialEq, Eq)]
 pub struct Counts {
     pub joins: u16,
 }
 
-// Why a list is refused: for what is wrong with the table, for its own length, or at the pair of a number.
-#[derive(Clone, Copy)]
+// A list is refused for what is wrong with the table, for its own length, or at the pair of a number.
+#[derive(Clone, Copy, PartialEq, Eq)]
 pub enum Refusal {
     Table(TableFault),
     List,
@@ -31,29 +31,27 @@ impl From<TableFault> for Refusal {
     }
 }
 
-// The answer, 0 to 11.
-pub fn number(answer: Result<Counts, Refusal>) -> u16
-    ensures { result ≡ number_of answer }
-{
-    match answer {
-        Ok(_) => 0,
-        Err(Refusal::Table(wrong)) => fault::number(wrong),
-        Err(Refusal::List) => 8,
-        Err(Refusal::Side(_)) => 9,
-        Err(Refusal::Clash(_)) => 10,
-        Err(Refusal::Cycle(_)) => 11,
-    }
-}
+impl Answer for Refusal {
+    ghost number_of = { refusal_number };
 
-// The place: an address, a pair number, or 0.
-pub fn place(answer: Result<Counts, Refusal>) -> u16
-    ensures { result ≡ place_of answer }
-{
-    match answer {
-        Ok(_) => 0,
-        Err(Refusal::Table(wrong)) => fault::place(wrong),
-        Err(Refusal::List) => 0,
-        Err(Refusal::Side(k)) | Err(Refusal::Clash(k)) | Err(Refusal::Cycle(k)) => k.0,
+    ghost place_of = { refusal_place };
+
+    fn number(self) -> u16 {
+        match self {
+            Refusal::Table(wrong) => wrong.number(),
+            Refusal::List => 8,
+            Refusal::Side(_) => 9,
+            Refusal::Clash(_) => 10,
+            Refusal::Cycle(_) => 11,
+        }
+    }
+
+    fn place(self) -> u16 {
+        match self {
+            Refusal::Table(wrong) => wrong.place(),
+            Refusal::List => 0,
+            Refusal::Side(k) | Refusal::Clash(k) | Refusal::Cycle(k) => k.0,
+        }
     }
 }
 

@@ -17,7 +17,6 @@ ghost use Rattle.matcher.specs.Steps.FirstFailure.{TablePassed, Verdict};
 ghost use Rattle.matcher.specs.Match.{MatchOf};
 
 use answer::{Counts, Refusal};
-use checker::answer::Checked;
 use words::numbers::PairNumber;
 
 // The answer for a table that passed its check.
@@ -52,8 +51,6 @@ pub fn match_list(
 ) -> Result<Counts, Refusal>
     ensures { MatchOf table.now list.now class.old work.old result class.new work.new }
 {
-    match checker::check(table, class, work) {
-        Checked::Accepted => match_checked(table, list, class, work),
-        Checked::Refused(wrong) => Err(Refusal::Table(wrong)),
-    }
+    checker::check(table, class, work)?;
+    match_checked(table, list, class, work)
 }

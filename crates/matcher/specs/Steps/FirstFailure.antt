@@ -7,9 +7,8 @@ use Rattle.answering.specs.Buffers.{changes_nothing}
 use Rattle.graphs.specs.Partition.{pairs_of, Clash, Cycle, ClassTable}
 use Rattle.table.specs.Table.{graph_of}
 use Rattle.table.specs.Faults.{Fault, FirstClash, FirstCycle, number, check_order, match_order}
-use Rattle.matcher.specs.declared.answer.Counts.{Counts}
 use Rattle.matcher.specs.declared.answer.Refusal.{Refusal}
-use Rattle.matcher.specs.Match.{number_of, place_of, joins_of, AcceptedWith, job_of}
+use Rattle.matcher.specs.Match.{Matched, number_of, place_of, joins_of, AcceptedWith, job_of}
 use Rattle.matcher.specs.Steps.PassedAll.{Cycles, PassedAll}
 
 -- A job that passes all checks, and a work row whose entries that are used are 0.
@@ -92,7 +91,7 @@ pub record FirstFailed (t list class work : List ℕ) (answer : Result (Unit {0}
   pub failed : Failed t list class_after answer
 
 -- An answer of 0 or from 3 on, with what it leaves of class and work rows whose entries in use were 0.
-pub record Verdict (t list class work : List ℕ) (answer : Result Counts Refusal) (class_after work_after : List ℕ) : Type 0 where
+pub record Verdict (t list class work : List ℕ) (answer : Matched) (class_after work_after : List ℕ) : Type 0 where
   pub answered : Answered number (Fault (job_of t list class work)) match_order (number_of answer) (place_of answer)
   pub late : changes_nothing (number_of answer) ≡ false
   pub bound : number_of answer ≡ 0 → AcceptedWith t list class class_after (joins_of answer)
