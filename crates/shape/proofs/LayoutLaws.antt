@@ -8,7 +8,7 @@
 use mathlib.Core.Path.{◌≡◌, refl, sym, ap, ◌∙◌}
 use mathlib.Core.Bool.{Bool, true, false}
 use mathlib.Core.List.{List}
-use mathlib.Core.Option.{Option, some}
+use Rattle.std.specs.Prelude.{Option, Some}
 use Prim.Native.Nat.{ℕ, zero, suc, ◌+◌, ◌-◌, ◌≤◌, ◌<◌}
 use native.Mathlib.Numerals.{add-one}
 use native.Mathlib.Omega.{arith}
@@ -20,7 +20,7 @@ use Rattle.table.proofs.Blocks as blocks
 use Rattle.table.specs.Layout.{Wanted, item, arguments, can_stand, after, at_end, break_from, more, less}
 
 module _ (t : List ℕ) (a : ℕ) (wanted : Wanted) where
-  pub break_stops : a < length t → can_stand wanted (kind_at t a) ≡ false → break_from wanted a (drop a t) ≡ some a
+  pub break_stops : a < length t → can_stand wanted (kind_at t a) ≡ false → break_from wanted a (drop a t) ≡ Some a
   break_stops h e = ap (break_from wanted a) (drop-cons t a 0 h) ∙ blocks.break_stops wanted a (word_at t a) (drop (suc a) t) e
 
   pub break_stands : a < length t → can_stand wanted (kind_at t a) ≡ true
@@ -45,7 +45,7 @@ module _ {t : List ℕ} {a : ℕ} {wanted : Wanted} (scanned : Scanned t wanted 
       kind ≡ kind_at t a →
       b ≡ can_stand wanted kind →
       b ≡ false →
-      some a ≡ break_from item 1 (drop 1 t)
+      Some a ≡ break_from item 1 (drop 1 t)
   scan_stops h k e stops = sym (scanned.same ∙ break_stops t a wanted h (ap (can_stand wanted) (sym k) ∙ sym e ∙ stops))
 
   pub scan_stands :
