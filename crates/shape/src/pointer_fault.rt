@@ -1,6 +1,6 @@
 // Answer 5, POINTER: "it names 0, an address of n or more, a pointer or a count".
 ghost use Rattle.std.specs.Prelude.{◌≡◌, ◌<◌, length};
-ghost use Rattle.answering.specs.Answers.{First};
+ghost use Rattle.answering.specs.Answers.{Found};
 ghost use Rattle.table.specs.Faults.{bad_target, bad_pointer};
 
 use words::kind::Kind;
@@ -37,16 +37,9 @@ fn is_bad_pointer(table: &[u32], at: usize) -> bool
     }
 }
 
-// The lowest address of a bad pointer, or the table's length where there is none.
-pub fn first_bad_pointer(table: &[u32]) -> usize
-    ensures { First (bad_pointer table.now) (length table.now) result }
+// The lowest address of a bad pointer.
+pub fn first_bad_pointer(table: &[u32]) -> Option<usize>
+    ensures { Found (bad_pointer table.now) (length table.now) result }
 {
-    let mut at = 0;
-    while at < table.len() {
-        if is_bad_pointer(table, at) {
-            return at;
-        }
-        at += 1;
-    }
-    at
+    (0..table.len()).find(|&at| is_bad_pointer(table, at))
 }

@@ -7,6 +7,7 @@ use Rattle.words.specs.declared.kind.Kind.TheVariants.{Function}
 use Rattle.words.proofs.KindLaws.{other_kind}
 use Rattle.table.specs.Layout.{item, count, more}
 use Rattle.table.specs.Layout.{after as after_word}
+use Rattle.shape.proofs.LayoutLaws.{one_less}
 use Rattle.shape.proofs.layout_fault.after.Goals as goal
 
 pub returns-in-Function : goal.returns-in-Function
@@ -23,4 +24,4 @@ returns-in-Count c = rw c.in-Count.is (c.more.ensures ∙ ap more c.content.ensu
 
 pub returns-in-Arguments : goal.returns-in-Arguments
 unfolding after_word
-returns-in-Arguments c = rw c.in-Arguments.is (c.more-in-Arguments.ensures ∙ ap more c.one_less.ensures)
+returns-in-Arguments c = rw c.in-Arguments.is (c.more-in-Arguments.ensures ∙ ap more (c.saturating_sub.ensures ∙ one_less c.in-Arguments.left))

@@ -8,8 +8,4 @@ returns-in-Item c = rw c.in-Item.is
 
 pub returns-in-Count : goal.returns-in-Count
 unfolding at_end
-returns-in-Count c = rw c.in-Count.is
-
-pub returns-in-Arguments : goal.returns-in-Arguments
-unfolding at_end
-returns-in-Arguments c = rw c.in-Arguments.is
+returns-in-Count c = search rules
