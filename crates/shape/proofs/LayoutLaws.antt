@@ -3,7 +3,7 @@
 --   break_stands   where the rest breaks, after a word that can
 --   break_ends     at the end of the table
 --   scan-..        the same three for a scan, from what it read
---   more-.., one_less  the next thing wanted, by the number of arguments still to come
+--   one_less       how many arguments are still to come after one more
 -- Assumes nothing.
 use mathlib.Core.Path.{◌≡◌, refl, sym, ap, ◌∙◌}
 use mathlib.Core.Bool.{Bool, true, false}
@@ -17,7 +17,7 @@ use lib.Seq.{drop-cons}
 use Rattle.words.specs.declared.kind.Kind.{Kind}
 use Rattle.table.specs.Table.{word_at, kind_at}
 use Rattle.table.proofs.Blocks as blocks
-use Rattle.table.specs.Layout.{Wanted, item, arguments, can_stand, after, at_end, break_from, more, less}
+use Rattle.table.specs.Layout.{Wanted, item, can_stand, after, at_end, break_from, less}
 
 module _ (t : List ℕ) (a : ℕ) (wanted : Wanted) where
   pub break_stops : a < length t → can_stand wanted (kind_at t a) ≡ false → break_from wanted a (drop a t) ≡ Some a
@@ -71,20 +71,12 @@ module _ {t : List ℕ} {a : ℕ} {wanted : Wanted} (scanned : Scanned t wanted 
       (1 ≤ length t → a ≤ length t) →
       r ≡ at_end wanted (length t) →
       r ≡ break_from item 1 (drop 1 t)
+  unfolding at_end
   scan_ends h near e = e ∙ at_the_end (length t) refl ∙ sym (scanned.same ∙ break_ends t a wanted h)
     where
       at_the_end : (n : ℕ) → length t ≡ n → at_end wanted (length t) ≡ at_end wanted a
-      unfolding at_end
       at_the_end zero z = rw (scanned.nothing_read z)
       at_the_end (suc n) z = ap (at_end wanted) (omega arith)
-
-pub more_none : (k : ℕ) → k ≡ 0 → item ≡ more k
-more_none zero e = refl
-more_none (suc k) e = absurd (omega arith)
-
-pub more_some : (k : ℕ) → (k ≡ 0 → ⊥) → arguments k ≡ more k
-more_some zero other = absurd (other refl)
-more_some (suc k) other = refl
 
 pub one_less : (k : ℕ) → k - 1 ≡ less k
 one_less zero = refl

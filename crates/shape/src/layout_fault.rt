@@ -21,7 +21,7 @@ fn can_stand(wanted: Wanted, kind: Kind) -> bool
 {
     match wanted {
         Wanted::Item => kind::is_node(kind),
-        Wanted::Count => { if let Kind::Count = kind { true } else { false } }
+        Wanted::Count => kind == Kind::Count,
         Wanted::Arguments(_) => kind::is_argument(kind),
     }
 }
@@ -42,13 +42,8 @@ fn after(wanted: Wanted, word: u32) -> Wanted
     ensures { wanted_of result ≡ after_word (wanted_of wanted) word }
 {
     match wanted {
-        Wanted::Item => {
-            if let Kind::Function = word::kind(word) {
-                Wanted::Count
-            } else {
-                Wanted::Item
-            }
-        }
+        Wanted::Item if word::kind(word) == Kind::Function => Wanted::Count,
+        Wanted::Item => Wanted::Item,
         Wanted::Count => more(word::content(word)),
         Wanted::Arguments(left) => more(left.saturating_sub(1)),
     }

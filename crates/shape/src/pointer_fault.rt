@@ -12,16 +12,7 @@ pub fn is_bad_target(table: &[u32], target: Address) -> bool
     ensures { result ≡ bad_target table.now target.0 }
 {
     let at = target.0 as usize;
-    if at == 0 {
-        return true;
-    }
-    if table.len() <= at {
-        return true;
-    }
-    match word::kind(table[at]) {
-        Kind::Pointer | Kind::Count => true,
-        _ => false,
-    }
+    at == 0 || table.len() <= at || matches!(word::kind(table[at]), Kind::Pointer | Kind::Count)
 }
 
 // Whether the word at an address is a bad pointer.
@@ -30,11 +21,7 @@ fn is_bad_pointer(table: &[u32], at: usize) -> bool
     ensures { result ≡ bad_pointer table.now at }
 {
     let word = table[at];
-    if let Kind::Pointer = word::kind(word) {
-        is_bad_target(table, word::address(word))
-    } else {
-        false
-    }
+    word::kind(word) == Kind::Pointer && is_bad_target(table, word::address(word))
 }
 
 // The lowest address of a bad pointer.

@@ -1,6 +1,4 @@
 -- `shape::layout_fault::layout_break` meets its contract: the row breaks where the rest of it breaks, from where the scan has come to. Assumes nothing.
-use mathlib.Core.Path.{◌≡◌}
-use Rattle.table.specs.Layout.{item}
 use Rattle.shape.specs.Steps.Wanted.{wanted_of}
 use Rattle.shape.proofs.LayoutLaws.{Scanned}
 use Rattle.shape.proofs.layout_fault.layout_break.Given as goal

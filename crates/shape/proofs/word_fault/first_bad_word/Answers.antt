@@ -1,7 +1,7 @@
-use Rattle.std.proofs.Common.{rules, refl, tests}
+-- `shape::word_fault::first_bad_word` meets its contract, by the law of a search below n. Assumes nothing.
+use Rattle.std.proofs.Common.{rules, tests}
 use Rattle.std.proofs.lemmas.Iterator.{first_from_Range}
 use Rattle.shape.proofs.Search.{found_in_range}
-use Rattle.table.specs.Faults.{bad_word}
 use Rattle.shape.proofs.word_fault.first_bad_word.Goals as goal
 
 pub returns : goal.returns
