@@ -1,6 +1,6 @@
 -- How an answer is picked from an ordered list of rows, whatever the rows are about: a match, the reader, the writer and the
 -- host call each have an order of their own. Assumes nothing.
-use Rattle.std.specs.Prelude.{◌≡◌, Bool, true, false, Option, None, Some, ◌⊎◌, List, [], ◌∷◌, ℕ, ◌≤◌, ◌<◌}
+use Rattle.std.specs.Prelude.{◌≡◌, Bool, true, false, ◌⊎◌, List, [], ◌∷◌, ℕ, ◌≤◌, ◌<◌, Option, Some, None}
 
 -- "lowest such": a number with a property, and none below it has it
 pub record Lowest (P : ℕ → Type 0) (k : ℕ) : Type 0 where
@@ -13,7 +13,7 @@ pub record First (test : ℕ → Bool) (n found : ℕ) : Type 0 where
   pub before : (j : ℕ) → j < found → test j ≡ false
   pub passes : found < n → test found ≡ true
 
--- What a search below n finds: the first number that passes the test, or nothing where none does.
+-- The same, where nothing is found if no number passes.
 abbrev pub Found : (ℕ → Bool) → ℕ → Option ℕ → Type 0
 Found test n (Some k) = (k < n) × (test k ≡ true) × ((j : ℕ) → j < k → test j ≡ false)
 Found test n None = (j : ℕ) → j < n → test j ≡ false
