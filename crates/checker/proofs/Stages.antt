@@ -5,34 +5,30 @@ use mathlib.Core.Path.{◌≡◌, refl, sym, ◌∙◌}
 use mathlib.Core.Bool.{Bool, true, false}
 use mathlib.Core.Logic.{inl, inr}
 use mathlib.Core.List.{List, [], ◌∷◌}
-use Rattle.std.specs.Prelude.{None, Some}
-use Prim.Native.Nat.{ℕ, suc, ◌+◌, ◌≤◌, ◌<◌}
+use Rattle.std.specs.Prelude.{None, Some, Ok, Err}
+use Prim.Native.Nat.{ℕ, suc, ◌+◌, ◌≤◌}
 use native.Mathlib.Omega.{arith}
 use lib.ListN.{length, drop, length-drop}
 use Rattle.words.specs.Word.{kind_of}
 use Rattle.answering.specs.declared.fault.TableFault.TheVariants.{Word, Layout, Pointer}
-use Rattle.answering.specs.Answers.{First, NoneOf}
-use Rattle.answering.proofs.LowestLaws.{first_lowest, first_none}
+use Rattle.answering.specs.Answers.{Found, NoneOf}
+use Rattle.answering.proofs.LowestLaws.{found_lowest, found_none}
 use Rattle.answering.proofs.Orders.{none_first}
 use Rattle.graphs.proofs.Classes.{never}
 use Rattle.table.specs.Layout.{Wanted, item, count, arguments, can_stand, after, at_end, break_from}
 use Rattle.table.specs.Faults.{Job, sent, bad_word, bad_pointer, WORD, LAYOUT, POINTER, Fault, word_fault, layout_fault, pointer_fault, number, shape_rows}
 use Rattle.table.specs.Readable.{Readable}
 use Rattle.table.proofs.Blocks.{break_stands, break_stops}
-use Rattle.std.specs.Prelude.{Ok, Err}
 use Rattle.checker.specs.Steps.Stage.{ByRows}
 
 -- ---- the shape rows
 
 module _ {job : Job} where
-  no_word : {r : ℕ} → First (bad_word job.table) (length job.table) r → length job.table ≤ r → (p : ℕ) → Fault job WORD p → ⊥
-  no_word f h p (word_fault l) = first_none f h p l.has
+  no_word : Found (bad_word job.table) (length job.table) None → (p : ℕ) → Fault job WORD p → ⊥
+  no_word none p (word_fault l) = found_none none p l.has
 
   no_layout : break_from item 1 (drop 1 job.table) ≡ None → (p : ℕ) → Fault job LAYOUT p → ⊥
   no_layout e p (layout_fault b) = never (cc)
-
-  no_pointer : {r : ℕ} → First (bad_pointer job.table) (length job.table) r → length job.table ≤ r → (p : ℕ) → Fault job POINTER p → ⊥
-  no_pointer f h p (pointer_fault l) = first_none f h p l.has
 
   -- none of the rows applies to a table that can be read
   pub readable_none : Readable job.table → NoneOf (Fault job) shape_rows
@@ -48,22 +44,19 @@ module _ {t : List ℕ} where
   pub readable_accepted : Readable t → ByRows shape_rows t (Ok tt)
   readable_accepted s list c w = none_first number (Fault (sent t list c w)) shape_rows [] 0 0 (readable_none s) (refl, refl)
 
-  pub bad_word_lem : {r : ℕ} → First (bad_word t) (length t) r → r < length t → ByRows shape_rows t (Err (Word (record { 0 = r })))
+  pub bad_word_lem : (a : ℕ) → Found (bad_word t) (length t) (Some a) → ByRows shape_rows t (Err (Word (record { 0 = a })))
   unfolding number
-  bad_word_lem f h list c w = inl (refl, word_fault (first_lowest f h))
+  bad_word_lem a found list c w = inl (refl, word_fault (found_lowest found))
 
-  module _ {r : ℕ} (words : First (bad_word t) (length t) r) (good : length t ≤ r) where
-    pub bad_layout : {p : ℕ} → break_from item 1 (drop 1 t) ≡ Some p → ByRows shape_rows t (Err (Layout (record { 0 = p })))
+  module _ (words : Found (bad_word t) (length t) None) where
+    pub bad_layout : {a : ℕ} → break_from item 1 (drop 1 t) ≡ Some a → ByRows shape_rows t (Err (Layout (record { 0 = a })))
     unfolding number
-    bad_layout e list c w = inr (no_word words good, inl (refl, layout_fault e))
+    bad_layout e list c w = inr (no_word words, inl (refl, layout_fault e))
 
-    module _ {q : ℕ} (whole : break_from item 1 (drop 1 t) ≡ None) (pointers : First (bad_pointer t) (length t) q) where
-      pub bad_pointer_lem : q < length t → ByRows shape_rows t (Err (Pointer (record { 0 = q })))
+    module _ (whole : break_from item 1 (drop 1 t) ≡ None) where
+      pub bad_pointer_lem : (a : ℕ) → Found (bad_pointer t) (length t) (Some a) → ByRows shape_rows t (Err (Pointer (record { 0 = a })))
       unfolding number
-      bad_pointer_lem h list c w = inr (no_word words good, inr (no_layout whole, inl (refl, pointer_fault (first_lowest pointers h))))
-
-      pub no_bad_shape : length t ≤ q → ByRows shape_rows t (Ok tt)
-      no_bad_shape h list c w = inr (no_word words good, inr (no_layout whole, inr (no_pointer pointers h, (refl, refl))))
+      bad_pointer_lem a found list c w = inr (no_word words, inr (no_layout whole, inl (refl, pointer_fault (found_lowest found))))
 
 -- ---- where the row of items can break
 

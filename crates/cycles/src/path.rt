@@ -60,9 +60,6 @@ pub fn pass_over(table: &[u32], class: &[u16], work: &[u16], x: usize, i: usize)
     requires { Searchable table.now class.now × Sure (digraph_of table.now class.now) work.now × (x < length table.now) × (i ≤ degree table.now x) }
     ensures { Passed (digraph_of table.now class.now) work.now x i result }
 {
-    (i..reads::edge_count(table, x)).find(|&j| is_open(
-        table,
-        work,
-        reads::next(table, class, x, j),
-    ))
+    let count = reads::edge_count(table, x);
+    (i..count).find(|&j| is_open(table, work, reads::next(table, class, x, j)))
 }
