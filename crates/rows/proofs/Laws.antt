@@ -5,6 +5,7 @@
 --     a number byte by byte     fetched, number_at-fetched (a read); placed-sets (a write)
 --     a row put over a part     length-placed, number_at-placed, number_at-placed_before, number_at-placed_after
 --     a row from the front      Built, built_none, built_more, built_all: every loop that clears, fills or copies
+--     by the library's methods  filled_front, filled_whole (`fill`); copied_front, copied_within (`copy_from_slice`); front_placed
 --     behind the front          behind_stays, behind_cleared, cleared_zero: what a replaced or cleared front leaves
 --     one answer                equations_agree
 --
@@ -17,7 +18,9 @@ use native.Mathlib.Numerals.{add-one}
 use native.Mathlib.Omega.{arith}
 use mathlib.Core.List.{List, [], ◌∷◌, ◌++◌, append_assoc}
 use lib.ListN.{length, take, drop, get_or, set, replicate, length-replicate, get_or-replicate, get_or-append, length-set, length-append, length-take, length-drop, take-append-drop}
-use lib.Seq.{drop-cons, take-suc, append_snoc, set_at, take_at, drop_at, length-take-le, take_all, take-append-le, drop-append-le, drop-append-add, drop-drop, sets, sets-eq}
+use lib.Seq.{drop-cons, take-suc, append_snoc, set_at, take_at, drop_at, length-take-le, take_all, take-append-le, drop-append-le, drop-append-add, drop-drop, drop-length, sets, sets-eq}
+use borrow.Rule.Slice.PartMut.{put_mid}
+use Rattle.std.proofs.lemmas.List.{append-nil}
 use Rattle.rows.specs.LittleEndian.{from_bytes, bytes_of, number_at, AllBytes}
 use Rattle.rows.specs.Placed.{placed, zeroed}
 
@@ -155,6 +158,32 @@ module _ {A : Type 0} where
       let end : i ≡ n = omega arith in
       let all : length whole ≤ i = omega arith in
       built.so_far ∙ rw (take_all i whole all, end)
+
+-- ---- by the library's methods
+
+-- What `row[..n].fill(0)` leaves. `filled` is the part that was lent, as it is behind the call: in an answer `c.fill.new.self`, and the
+-- last argument is `c.fill.ensures.after (λ y e. e)`.
+pub filled_front : (n : ℕ) (row filled : List ℕ) → n ≤ length row → filled ≡ replicate (length (take n row)) 0 → filled ++ drop n row ≡ zeroed n row
+filled_front n row filled h same = rw (same, length-take-le n row h)
+
+-- What `row.fill(0)` leaves: the whole row is its front.
+pub filled_whole : (row filled : List ℕ) → filled ≡ replicate (length row) 0 → filled ≡ zeroed (length row) row
+filled_whole row filled same = rw (same, drop-length, append-nil)
+
+module _ {A : Type 0} where
+  -- What `row[..k].copy_from_slice(xs)` leaves: the last argument is `c.copy_from_slice.ensures.after`, here and in the next.
+  pub copied_front : (k : ℕ) (xs row copied : List A) → k ≡ length xs → copied ≡ xs → copied ++ drop k row ≡ xs ++ drop (length xs) row
+  copied_front k xs row copied long same = rw (same, long)
+
+  -- What `row[at..at + k].copy_from_slice(xs)` leaves.
+  pub copied_within : (at k : ℕ) (xs row copied : List A) → k ≡ length xs → copied ≡ xs → put_mid at k row copied ≡ placed at xs row
+  unfolding placed
+  copied_within at k xs row copied long same = rw (same, long, drop-drop, append_assoc)
+
+  -- A row put over the front of another is placed there.
+  pub front_placed : (xs row : List A) → xs ++ drop (length xs) row ≡ placed 0 xs row
+  unfolding placed
+  front_placed xs row = let from_0 : length xs ≡ 0 + length xs = omega arith in ap (λ (n : ℕ). xs ++ drop n row) from_0
 
 -- ---- behind the front
 
