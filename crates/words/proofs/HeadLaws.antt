@@ -2,7 +2,6 @@
 --   same_symbol_exactly     the test of two symbols is their equality
 --   symbols_agree_exactly   the test of two heads, one of them no variable, is that they have one symbol
 --   kinds_by_symbols        heads of one symbol are of one kind, if each function among them has an argument
---   labels_agree_at, symbols_agree_at   the two tests, from what was read of the heads
 -- Assumes nothing.
 use Prim.Native.Nat.{ℕ}
 use mathlib.Core.Path.{◌≡◌, refl, sym, ap, ◌∙◌}
@@ -11,9 +10,8 @@ use mathlib.Core.Logic.{◌↔◌}
 use native.Mathlib.Omega.{arith}
 use lib.Dec.{eqb}
 use borrow.Author.Tests.{eq-eqb, ne_eqb, eqb-true}
-use Rattle.words.specs.Head.{Counted, kind_of_head, label_of, label_and_count, HeadSymbol, One, None, symbol_of, labels_agree, same_symbol, one_symbol, symbols_agree}
+use Rattle.words.specs.Head.{Counted, kind_of_head, HeadSymbol, One, None, symbol_of, same_symbol, one_symbol, symbols_agree}
 use Rattle.words.specs.declared.kind.Kind.{Kind}
-use Rattle.words.specs.declared.numbers.Label.{Label}
 use Rattle.words.specs.declared.head.Head.{Head}
 use Rattle.words.specs.declared.head.Head.TheVariants.{Variable, Constant, Function}
 use Rattle.words.specs.declared.head.Symbol.{Symbol}
@@ -56,9 +54,3 @@ kind_by_symbol (Function l n) counted = rw (ne_eqb n 0 (λ none. omega arith))
 
 pub kinds_by_symbols : (l r : Head) → Counted l → Counted r → symbol_of l ≡ symbol_of r → kind_of_head l ≡ kind_of_head r
 kinds_by_symbols l r p q e = sym (kind_by_symbol l p) ∙ ap kind_of_symbol e ∙ kind_by_symbol r q
-
-pub labels_agree_at : (l r : Head) (a b : Label) → a ≡ label_of l → b ≡ label_of r → eqb a.0 b.0 ≡ labels_agree l r
-labels_agree_at l r a b p q = rw (p, q)
-
-pub symbols_agree_at : (l r : Head) (a b : Symbol) → a ≡ label_and_count l → b ≡ label_and_count r → same_symbol a b ≡ same_symbol (label_and_count l) (label_and_count r)
-symbols_agree_at l r a b p q = rw (p, q)

@@ -1,50 +1,22 @@
 -- What comes of two heads that meet. In order:
---   outcome_by_meeting   it is what the table's entry says, carried out
 --   clash_by_kind        a clash is two non-variable heads that differ in kind or in symbol: for all heads
 --   clash_exactly        a clash is two non-variable heads with different symbols: where each function has an argument
 --   go_down_exactly      going down is for two functions with one symbol: for all heads
 -- Assumes nothing.
 use Prim.Native.Nat.{ℕ}
 use mathlib.Core.Path.{◌≡◌, refl, sym, ap, ◌∙◌}
-use mathlib.Core.Bool.{Bool, true, false, cond, ◌||◌, and-true, true≢false}
+use mathlib.Core.Bool.{Bool, true, false, cond, ◌||◌, true≢false}
 use mathlib.Core.Logic.{◌↔◌}
 use native.Mathlib.Omega.{arith}
 use Rattle.words.specs.Word.{tag_number, same_kind}
-use Rattle.words.specs.Head.{Counted, kind_of_head, is_variable, is_function, label_and_count, symbol_of, labels_agree, same_symbol, heads_agree}
-use Rattle.words.specs.Meeting.{meeting_of, outcome_of, DifferentSymbols, FunctionsOfOneSymbol}
+use Rattle.words.specs.Head.{Counted, kind_of_head, is_variable, is_function, symbol_of, heads_agree}
+use Rattle.words.specs.Meeting.{outcome_of, DifferentSymbols, FunctionsOfOneSymbol}
 use Rattle.words.specs.declared.kind.Kind.{Kind}
 use Rattle.words.specs.declared.head.Head.{Head}
-use Rattle.words.specs.declared.head.Head.TheVariants.{Variable, Constant, Function}
-use Rattle.words.specs.declared.meeting.Action.{Action}
-use Rattle.words.specs.declared.meeting.Action.TheVariants.{Join, JoinIfLabelsAgree, GoDownIfSymbolsAgree, Clash}
 use Rattle.words.specs.declared.meeting.Outcome.{Outcome}
 use Rattle.words.proofs.Tests.{false_exactly, and_exactly}
 use Rattle.words.proofs.WordLaws.{same_kind_exactly}
 use Rattle.words.proofs.HeadLaws.{symbols_agree_exactly, kinds_by_symbols}
-
--- an entry of the table, carried out: it says what is compared
-abbrev pub carried_out : Action → Bool → Bool → Outcome
-carried_out Join labels symbols = Outcome.Joined
-carried_out JoinIfLabelsAgree labels symbols = cond labels Outcome.Joined Outcome.Clash
-carried_out GoDownIfSymbolsAgree labels symbols = cond symbols Outcome.JoinedGoDown Outcome.Clash
-carried_out Clash labels symbols = Outcome.Clash
-
-carried_out_lem : (l r : Head) → carried_out (meeting_of l r) (labels_agree l r) (same_symbol (label_and_count l) (label_and_count r)) ≡ outcome_of l r
-carried_out_lem (Variable a) r = refl
-carried_out_lem (Constant a) (Variable b) = refl
-carried_out_lem (Constant a) (Constant b) = rw and-true
-carried_out_lem (Constant a) (Function b m) = refl
-carried_out_lem (Function a n) (Variable b) = refl
-carried_out_lem (Function a n) (Constant b) = refl
-carried_out_lem (Function a n) (Function b m) = refl
-
-pub outcome_by_meeting :
-    (l r : Head) (action : Action) (labels symbols : Bool) →
-    action ≡ meeting_of l r →
-    labels ≡ labels_agree l r →
-    symbols ≡ same_symbol (label_and_count l) (label_and_count r) →
-    carried_out action labels symbols ≡ outcome_of l r
-outcome_by_meeting l r action labels symbols p q s = rw (p, q, s) (carried_out_lem l r)
 
 -- the outcome by its four tests: either head is a variable, the two agree, they are functions
 abbrev tested : Bool → Bool → Bool → Bool → Outcome

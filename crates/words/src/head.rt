@@ -1,12 +1,12 @@
 // What stands at the top of a node, and its symbol.
 ghost use Rattle.std.specs.Prelude.{◌≡◌};
-ghost use Rattle.words.specs.Head.{label_of, label_and_count, same_symbol};
+ghost use Rattle.words.specs.Head.{label_of, label_and_count};
 
 use crate::numbers::Label;
 
 // A node's kind with its data: the label and, of a function, the argument count. A checked table
 // has counts from 1 to 255; the functions here take any.
-#[derive(Clone, Copy)]
+#[derive(Clone, Copy, PartialEq, Eq)]
 pub enum Head {
     Variable(Label),
     Constant(Label),
@@ -14,7 +14,7 @@ pub enum Head {
 }
 
 // A label with its argument count.
-#[derive(Clone, Copy)]
+#[derive(Clone, Copy, PartialEq, Eq)]
 pub struct Symbol {
     pub label: Label,
     pub count: u16,
@@ -41,11 +41,4 @@ pub fn label_and_count(head: Head) -> Symbol
         Head::Constant(label) => Symbol { label, count: 0 },
         Head::Function(label, count) => Symbol { label, count },
     }
-}
-
-// Whether two symbols are one: label and count agree.
-pub fn same_symbol(left: Symbol, right: Symbol) -> bool
-    ensures { result ≡ same_symbol left right }
-{
-    left.label.0 == right.label.0 && left.count == right.count
 }

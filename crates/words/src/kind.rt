@@ -2,7 +2,7 @@
 ghost use Rattle.std.specs.Prelude.{◌≡◌};
 ghost use Rattle.words.specs.Word.{argument_kinds, is_one_of, node_kinds};
 
-#[derive(Clone, Copy)]
+#[derive(Clone, Copy, PartialEq, Eq)]
 pub enum Kind {
     Variable,
     Constant,
@@ -19,18 +19,12 @@ pub enum Kind {
 pub fn is_node(kind: Kind) -> bool
     ensures { result ≡ is_one_of node_kinds kind }
 {
-    match kind {
-        Kind::Variable | Kind::Constant | Kind::Function => true,
-        _ => false,
-    }
+    matches!(kind, Kind::Variable | Kind::Constant | Kind::Function)
 }
 
 // Whether a word of this kind can be an argument.
 pub fn is_argument(kind: Kind) -> bool
     ensures { result ≡ is_one_of argument_kinds kind }
 {
-    match kind {
-        Kind::Variable | Kind::Constant | Kind::Pointer => true,
-        _ => false,
-    }
+    matches!(kind, Kind::Variable | Kind::Constant | Kind::Pointer)
 }

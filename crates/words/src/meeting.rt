@@ -8,7 +8,7 @@ use crate::head;
 use crate::head::Head;
 
 // What is to be done with two heads, by their kinds alone.
-#[derive(Clone, Copy)]
+#[derive(Clone, Copy, PartialEq, Eq)]
 pub enum Action {
     Join,
     JoinIfLabelsAgree,
@@ -18,7 +18,7 @@ pub enum Action {
 }
 
 // What came of two heads.
-#[derive(Clone, Copy)]
+#[derive(Clone, Copy, PartialEq, Eq)]
 pub enum Outcome {
     Joined,
     // Joined, and their children are to be joined place by place.
@@ -56,14 +56,14 @@ pub fn meeting(left: Head, right: Head) -> Action
 fn labels_agree(left: Head, right: Head) -> bool
     ensures { result ≡ labels_agree left right }
 {
-    head::label_of(left).0 == head::label_of(right).0
+    head::label_of(left) == head::label_of(right)
 }
 
 // Whether label and count of two heads agree.
 fn symbols_agree(left: Head, right: Head) -> bool
     ensures { result ≡ same_symbol (label_and_count left) (label_and_count right) }
 {
-    head::same_symbol(head::label_and_count(left), head::label_and_count(right))
+    head::label_and_count(left) == head::label_and_count(right)
 }
 
 // What comes of two heads that meet: the table is asked, and then what its entry says is compared.
