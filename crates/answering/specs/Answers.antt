@@ -1,6 +1,6 @@
 -- How an answer is picked from an ordered list of rows, whatever the rows are about: a match, the reader, the writer and the
 -- host call each have an order of their own. Assumes nothing.
-use Rattle.std.specs.Prelude.{◌≡◌, Bool, true, false, ◌⊎◌, List, [], ◌∷◌, ℕ, ◌≤◌, ◌<◌}
+use Rattle.std.specs.Prelude.{◌≡◌, Bool, true, false, ◌⊎◌, List, [], ◌∷◌, ℕ, ◌≤◌, ◌<◌, Option, Some, None}
 
 -- "lowest such": a number with a property, and none below it has it
 pub record Lowest (P : ℕ → Type 0) (k : ℕ) : Type 0 where
@@ -12,6 +12,11 @@ pub record First (test : ℕ → Bool) (n found : ℕ) : Type 0 where
   pub within : found ≤ n
   pub before : (j : ℕ) → j < found → test j ≡ false
   pub passes : found < n → test found ≡ true
+
+-- The same, where nothing is found if no number passes.
+abbrev pub Found : (ℕ → Bool) → ℕ → Option ℕ → Type 0
+Found test n (Some k) = (k < n) × (test k ≡ true) × ((j : ℕ) → j < k → test j ≡ false)
+Found test n None = (j : ℕ) → j < n → test j ≡ false
 
 -- "The lowest number that applies is given": the first row of the order that applies gives its number, at the place where it
 -- applies; if no row applies, the answer is 0 at place 0.

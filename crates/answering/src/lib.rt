@@ -1,6 +1,8 @@
-// What an answer is. How its number is picked from rows, and what it leaves in lent rows, stands in
-// specs/, for every crate that answers; the one thing that two answers share is code: what is wrong with
-// a table.
+// What an answer is: a number from document 01's table of numbers, and a place.
+//
+// How the number is picked from rows, and what an answer leaves in lent rows, stands in specs/, for every crate that answers. Two
+// answers share code: what has a number and a place (answer), and what is wrong with a table (fault).
 #![tactic(auto)]
 
+pub mod answer;
 pub mod fault;

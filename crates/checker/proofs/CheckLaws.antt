@@ -22,9 +22,8 @@ use Rattle.answering.proofs.BufferLaws.{later_rows, left-zeroed}
 use Rattle.table.specs.Faults.{sent, Row, Repeats, SIZE, ROOM, NAME, LOOP, number, Fault, size_fault, room_fault, name_fault, loop_fault, shape_rows, table_rows}
 use Rattle.table.specs.Readable.{Readable}
 use Rattle.table.proofs.PassedCheck.{no_fault_readable}
-use Rattle.checker.specs.declared.answer.Checked.{Checked}
-use Rattle.checker.specs.declared.answer.Checked.TheVariants.{Accepted, Refused}
-use Rattle.checker.specs.Check.{number_of, place_of, checked_job, CheckOf}
+use Rattle.std.specs.Prelude.{Ok, Err}
+use Rattle.checker.specs.Check.{Checked, number_of, place_of, checked_job, CheckOf}
 use Rattle.checker.specs.Steps.Names.{RestStays, FirstRepeated}
 use Rattle.checker.specs.Steps.Sound.{SoundTable}
 use Rattle.checker.specs.Steps.Stage.{ByRows, SizeAndRoom, Stage}
@@ -35,7 +34,7 @@ use Rattle.checker.proofs.Stages.{readable_accepted}
 -- ---- names and loops
 
 module _ {t before after : List ℕ} {found : ℕ} (scan : FirstRepeated t before after found) where
-  pub name_stage : {class : List ℕ} → found < length t → Stage (NAME ∷ LOOP ∷ []) t class before (Refused (Name (record { 0 = found }))) class after
+  pub name_stage : {class : List ℕ} → found < length t → Stage (NAME ∷ LOOP ∷ []) t class before (Err (Name (record { 0 = found }))) class after
   unfolding number
   name_stage h = record {
     answered = λ list c w. inl (refl, name_fault (record { has = scan.repeats h; none_below = scan.none_before }));
@@ -48,14 +47,14 @@ module _ {t before after : List ℕ} {found : ℕ} (scan : FirstRepeated t befor
 module _ {t class work class_after work_after : List ℕ} where
   -- the answer by row 7
   module _ {b : Bool} (search : LoopSearch t class work b class_after work_after) where
-    pub loop_stage : b ≡ true → Stage (LOOP ∷ []) t class work (Refused Loop) class_after work_after
+    pub loop_stage : b ≡ true → Stage (LOOP ∷ []) t class work (Err Loop) class_after work_after
     unfolding number
     loop_stage e = record { answered = λ list c w. there (subst (λ (x : Bool). Loops x t) e search.truth) list c w; kept = search.kept }
       where
-        there : Loops true t → ByRows (LOOP ∷ []) t (Refused Loop)
+        there : Loops true t → ByRows (LOOP ∷ []) t (Err Loop)
         there (x, s) list c w = inl (refl, loop_fault x s)
 
-    pub pass_stage : b ≡ false → Stage (LOOP ∷ []) t class work Accepted class_after work_after
+    pub pass_stage : b ≡ false → Stage (LOOP ∷ []) t class work (Ok tt) class_after work_after
     pass_stage e = record { answered = λ list c w. inr (none list c w, (refl, refl)); kept = search.kept }
       where
         none : (list : List ℕ) (c w p : ℕ) → Fault (sent t list c w) LOOP p → ⊥
@@ -80,7 +79,7 @@ lent_later s stage = record {
 -- ---- the shape rows
 
 -- What the rows 3, 4 and 5 let pass can be read.
-module _ {t : List ℕ} (by : ByRows shape_rows t Accepted) where
+module _ {t : List ℕ} (by : ByRows shape_rows t (Ok tt)) where
   none_there : (list : List ℕ) (c w : ℕ) → NoneOf (Fault (sent t list c w)) shape_rows
   unfolding number
   none_there list c w = (passed_none number (Fault (sent t list c w)) shape_rows 0 0 refl refl (by list c w)).0
@@ -99,7 +98,7 @@ module _ {t : List ℕ} (by : ByRows shape_rows t Accepted) where
 
 -- ---- the stages
 
-pub shape_refused : {t class work : List ℕ} {fault : TableFault} → ByRows shape_rows t (Refused fault) → Stage table_rows t class work (Refused fault) class work
+pub shape_refused : {t class work : List ℕ} {fault : TableFault} → ByRows shape_rows t (Err fault) → Stage table_rows t class work (Err fault) class work
 shape_refused {t} {fault = fault} by =
     record {
       answered = λ list c w.
@@ -123,14 +122,14 @@ cleared : (n : ℕ) (row stage : List ℕ) {after : List ℕ} → after ≡ zero
 cleared n row stage e k = e ∙ ap (λ (rest : List ℕ). replicate n 0 ++ rest) k
 
 module _ (t class work : List ℕ) where
-  pub check_size : (length t ≡ 0) ⊎ (most_words < length t) → CheckOf t class work (Refused Size) class work
+  pub check_size : (length t ≡ 0) ⊎ (most_words < length t) → CheckOf t class work (Err Size) class work
   unfolding number left changes_nothing
   check_size h = record { answered = inl (refl, size_fault h); class_left = refl; work_left = refl }
 
   no_size : 0 < length t → length t ≤ most_words → (p : ℕ) → Fault (checked_job t class work) SIZE p → ⊥
   no_size l u p (size_fault h) = ⊎_elim (λ e. omega arith) (λ e. omega arith) h
 
-  pub check_room : 0 < length t → length t ≤ most_words → (length class < length t) ⊎ (length work < 4 * length t) → CheckOf t class work (Refused Room) class work
+  pub check_room : 0 < length t → length t ≤ most_words → (length class < length t) ⊎ (length work < 4 * length t) → CheckOf t class work (Err Room) class work
   unfolding number left changes_nothing
   check_room l u h = record { answered = inr (no_size l u, inl (refl, room_fault h)); class_left = refl; work_left = refl }
 

@@ -15,20 +15,19 @@ use Rattle.answering.proofs.Orders.{answered_only}
 use Rattle.answering.proofs.FaultLaws.{fault_with, known}
 use Rattle.table.specs.Faults.{Job, sent, Fault, number, check_order}
 use Rattle.table.proofs.OneAnswer.{fault_once}
-use Rattle.checker.specs.declared.answer.Checked.{Checked}
-use Rattle.checker.specs.declared.answer.Checked.TheVariants.{Accepted, Refused}
-use Rattle.checker.specs.Check.{number_of, place_of, checked_job, CheckOf}
+use Rattle.std.specs.Prelude.{Ok, Err}
+use Rattle.checker.specs.Check.{Checked, number_of, place_of, checked_job, CheckOf}
 
 -- the answer that has a number and a place
 answer_with : ℕ → ℕ → Checked
-answer_with n p = cond (eqb n 0) Accepted (Refused (fault_with n p))
+answer_with n p = cond (eqb n 0) (Ok tt) (Err (fault_with n p))
 
 answer_by_numbers : (r : Checked) → answer_with (number_of r) (place_of r) ≡ r
 unfolding answer_with
-answer_by_numbers Accepted = refl
-answer_by_numbers (Refused fault) =
-    ap (λ (b : Bool). cond b Accepted (Refused (fault_with (fault_number fault) (fault_place fault)))) (ne_eqb (fault_number fault) 0 (λ z. omega (arith, z, (known fault).1)))
-    ∙ ap Refused (known fault).0
+answer_by_numbers (Ok done) = refl
+answer_by_numbers (Err fault) =
+    ap (λ (b : Bool). cond b (Ok tt) (Err (fault_with (fault_number fault) (fault_place fault)))) (ne_eqb (fault_number fault) 0 (λ z. omega (arith, z, (known fault).1)))
+    ∙ ap Err (known fault).0
 
 -- Answers of one number and one place are equal.
 pub numbers_fix_answer : (r s : Checked) → number_of r ≡ number_of s → place_of r ≡ place_of s → r ≡ s

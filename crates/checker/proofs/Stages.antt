@@ -19,7 +19,7 @@ use Rattle.table.specs.Layout.{Wanted, item, count, arguments, can_stand, after,
 use Rattle.table.specs.Faults.{Job, sent, bad_word, bad_pointer, WORD, LAYOUT, POINTER, Fault, word_fault, layout_fault, pointer_fault, number, shape_rows}
 use Rattle.table.specs.Readable.{Readable}
 use Rattle.table.proofs.Blocks.{break_stands, break_stops}
-use Rattle.checker.specs.declared.answer.Checked.TheVariants.{Accepted, Refused}
+use Rattle.std.specs.Prelude.{Ok, Err}
 use Rattle.checker.specs.Steps.Stage.{ByRows}
 
 -- ---- the shape rows
@@ -45,24 +45,24 @@ module _ {job : Job} where
       pointer p (pointer_fault l) = s.pointers p l.has.0 l.has.1
 
 module _ {t : List ℕ} where
-  pub readable_accepted : Readable t → ByRows shape_rows t Accepted
+  pub readable_accepted : Readable t → ByRows shape_rows t (Ok tt)
   readable_accepted s list c w = none_first number (Fault (sent t list c w)) shape_rows [] 0 0 (readable_none s) (refl, refl)
 
-  pub bad_word_lem : {r : ℕ} → First (bad_word t) (length t) r → r < length t → ByRows shape_rows t (Refused (Word (record { 0 = r })))
+  pub bad_word_lem : {r : ℕ} → First (bad_word t) (length t) r → r < length t → ByRows shape_rows t (Err (Word (record { 0 = r })))
   unfolding number
   bad_word_lem f h list c w = inl (refl, word_fault (first_lowest f h))
 
   module _ {r : ℕ} (words : First (bad_word t) (length t) r) (good : length t ≤ r) where
-    pub bad_layout : {p : ℕ} → break_from item 1 (drop 1 t) ≡ some p → ByRows shape_rows t (Refused (Layout (record { 0 = p })))
+    pub bad_layout : {p : ℕ} → break_from item 1 (drop 1 t) ≡ some p → ByRows shape_rows t (Err (Layout (record { 0 = p })))
     unfolding number
     bad_layout e list c w = inr (no_word words good, inl (refl, layout_fault e))
 
     module _ {q : ℕ} (whole : break_from item 1 (drop 1 t) ≡ none) (pointers : First (bad_pointer t) (length t) q) where
-      pub bad_pointer_lem : q < length t → ByRows shape_rows t (Refused (Pointer (record { 0 = q })))
+      pub bad_pointer_lem : q < length t → ByRows shape_rows t (Err (Pointer (record { 0 = q })))
       unfolding number
       bad_pointer_lem h list c w = inr (no_word words good, inr (no_layout whole, inl (refl, pointer_fault (first_lowest pointers h))))
 
-      pub no_bad_shape : length t ≤ q → ByRows shape_rows t Accepted
+      pub no_bad_shape : length t ≤ q → ByRows shape_rows t (Ok tt)
       no_bad_shape h list c w = inr (no_word words good, inr (no_layout whole, inr (no_pointer pointers h, (refl, refl))))
 
 -- ---- where the row of items can break

@@ -1,22 +1,24 @@
 -- What the table check answers, and what it leaves in the lent buffers. The sentences quoted are document 01's, "Numbers
 -- returned". Assumes nothing.
-use Rattle.std.specs.Prelude.{◌≡◌, List, [], ℕ, ◌*◌, length}
+use Rattle.std.specs.Prelude.{◌≡◌, List, [], ℕ, ◌*◌, length, Result}
 use Rattle.answering.specs.Answers.{Answered}
+use Rattle.answering.specs.Refused.{zero_unless_refused}
+use Rattle.answering.specs.declared.fault.TableFault.{TableFault}
 use Rattle.answering.specs.TableFaults.{number_of as fault_number, place_of as fault_place}
 use Rattle.answering.specs.Buffers.{left}
 use Rattle.table.specs.Faults.{Job, sent, Fault, number, check_order}
-use Rattle.checker.specs.declared.answer.Checked.{Checked}
-use Rattle.checker.specs.declared.answer.Checked.TheVariants.{Accepted, Refused}
 
 -- ---- the numbers of an answer
 
+-- The table is accepted, or refused for what is wrong with it.
+abbrev pub Checked : Type 0
+Checked = Result (Unit {0}) TableFault
+
 abbrev pub number_of : Checked → ℕ
-number_of Accepted = 0
-number_of (Refused fault) = fault_number fault
+number_of = zero_unless_refused fault_number
 
 abbrev pub place_of : Checked → ℕ
-place_of Accepted = 0
-place_of (Refused fault) = fault_place fault
+place_of = zero_unless_refused fault_place
 
 -- "Joins is 0 on refusal"; "on 0 its joins is 0"
 abbrev pub joins_of : Checked → ℕ

@@ -2,22 +2,19 @@
 ghost use Rattle.table.specs.Faults.{table_rows};
 ghost use Rattle.checker.specs.Steps.Stage.{SizeAndRoom, Stage};
 
-use crate::answer::Checked;
 use crate::{loops, name_fault, shape_fault, sound};
 use answering::fault::TableFault;
 use words::numbers::Address;
 
 // The answer by the rows from 3 to 7, gone through row after row.
-fn through_all_rows(table: &[u32], class: &mut [u16], work: &mut [u16]) -> Checked
+fn through_all_rows(table: &[u32], class: &mut [u16], work: &mut [u16]) -> Result<(), TableFault>
     requires { SizeAndRoom table.now class.old work.old }
     ensures { Stage table_rows table.now class.old work.old result class.new work.new }
 {
-    if let Checked::Refused(wrong) = shape_fault::row_by_row(table) {
-        return Checked::Refused(wrong);
-    }
+    shape_fault::row_by_row(table)?;
     let name = name_fault::first_repeated_name(table, work);
     if name < table.len() {
-        return Checked::Refused(TableFault::Name(Address(name as u16)));
+        return Err(TableFault::Name(Address(name as u16)));
     }
     loops::loops_alone(table, class, work)
 }
@@ -25,7 +22,7 @@ fn through_all_rows(table: &[u32], class: &mut [u16], work: &mut [u16]) -> Check
 // The answer by the rows from 3 to 7. Only a table that one walk does not show to be sound is gone
 // through row by row, for the number and the place. Entries above n and 4n stay; those below are
 // written over.
-pub(crate) fn faults(table: &[u32], class: &mut [u16], work: &mut [u16]) -> Checked
+pub(crate) fn faults(table: &[u32], class: &mut [u16], work: &mut [u16]) -> Result<(), TableFault>
     requires { SizeAndRoom table.now class.old work.old }
     ensures { Stage table_rows table.now class.old work.old result class.new work.new }
 {

@@ -6,7 +6,6 @@
 // earlier one has shown.
 #![tactic(auto)]
 
-pub mod answer;
 mod faults;
 mod loops;
 mod name_fault;
@@ -15,7 +14,6 @@ mod sound;
 
 ghost use Rattle.checker.specs.Check.{CheckOf};
 
-use answer::Checked;
 use answering::fault::TableFault;
 use words::limits::MOST_WORDS;
 
@@ -23,21 +21,21 @@ use words::limits::MOST_WORDS;
 //
 // Answers 1 and 2 change nothing. Any other leaves the first n entries of class and the first 4n of
 // work at 0, n being the number of words, and the entries above as they were.
-pub fn check(table: &[u32], class: &mut [u16], work: &mut [u16]) -> Checked
+pub fn check(table: &[u32], class: &mut [u16], work: &mut [u16]) -> Result<(), TableFault>
     ensures { CheckOf table.now class.old work.old result class.new work.new }
 {
     let n = table.len();
     if n == 0 {
-        return Checked::Refused(TableFault::Size);
+        return Err(TableFault::Size);
     }
     if MOST_WORDS < n {
-        return Checked::Refused(TableFault::Size);
+        return Err(TableFault::Size);
     }
     if class.len() < n {
-        return Checked::Refused(TableFault::Room);
+        return Err(TableFault::Room);
     }
     if work.len() < 4 * n {
-        return Checked::Refused(TableFault::Room);
+        return Err(TableFault::Room);
     }
     let answer = faults::faults(table, class, work);
     rows::clear16(class, n);

@@ -5,7 +5,6 @@ ghost use Rattle.table.specs.Faults.{LOOP};
 ghost use Rattle.table.specs.Readable.{Readable};
 ghost use Rattle.checker.specs.Steps.Stage.{counting, SizeAndRoom, Stage};
 
-use crate::answer::Checked;
 use answering::fault::TableFault;
 
 // Each of the first n addresses becomes its own class.
@@ -21,13 +20,17 @@ fn own_classes(class: &mut [u16], n: usize)
 }
 
 // The answer by row 7, for a table that can be read.
-pub(crate) fn loops_alone(table: &[u32], class: &mut [u16], work: &mut [u16]) -> Checked
+pub(crate) fn loops_alone(
+    table: &[u32],
+    class: &mut [u16],
+    work: &mut [u16],
+) -> Result<(), TableFault>
     requires { SizeAndRoom table.now class.old work.old × Readable table.now }
     ensures { Stage (LOOP ∷ []) table.now class.old work.old result class.new work.new }
 {
     own_classes(class, table.len());
     if cycles::reaches_itself(table, class, work) {
-        return Checked::Refused(TableFault::Loop);
+        return Err(TableFault::Loop);
     }
-    Checked::Accepted
+    Ok(())
 }

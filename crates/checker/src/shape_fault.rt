@@ -4,27 +4,26 @@ ghost use Rattle.words.specs.Limits.{most_words};
 ghost use Rattle.table.specs.Faults.{shape_rows};
 ghost use Rattle.checker.specs.Steps.Stage.{ByRows};
 
-use crate::answer::Checked;
 use answering::fault::TableFault;
 use shape::layout_fault::RowOfItems;
 use shape::{layout_fault, pointer_fault, word_fault};
 use words::numbers::Address;
 
 // The answer by the rows 3, 4 and 5, found by a pass over the table for each.
-pub(crate) fn row_by_row(table: &[u32]) -> Checked
+pub(crate) fn row_by_row(table: &[u32]) -> Result<(), TableFault>
     requires { length table.now ≤ most_words }
     ensures { ByRows shape_rows table.now result }
 {
     let word = word_fault::first_bad_word(table);
     if word < table.len() {
-        return Checked::Refused(TableFault::Word(Address(word as u16)));
+        return Err(TableFault::Word(Address(word as u16)));
     }
     if let RowOfItems::BreaksAt(at) = layout_fault::layout_break(table) {
-        return Checked::Refused(TableFault::Layout(Address(at as u16)));
+        return Err(TableFault::Layout(Address(at as u16)));
     }
     let pointer = pointer_fault::first_bad_pointer(table);
     if pointer < table.len() {
-        return Checked::Refused(TableFault::Pointer(Address(pointer as u16)));
+        return Err(TableFault::Pointer(Address(pointer as u16)));
     }
-    Checked::Accepted
+    Ok(())
 }

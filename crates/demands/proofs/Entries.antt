@@ -17,8 +17,7 @@ use Rattle.graphs.specs.Partition.{pairs_of, Same, Smallest, entry, ClassTable, 
 use Rattle.graphs.specs.Term.{WellCounted, Replacement, ◌then◌, Unifies, FollowsRule, answer}
 use Rattle.table.specs.Table.{TableSymbols, graph_of}
 use Rattle.table.specs.Faults.{Fault, number, check_order, match_order}
-use Rattle.checker.specs.declared.answer.Checked.{Checked}
-use Rattle.checker.specs.Check.{number_of as check_number, place_of as check_place, checked_job}
+use Rattle.checker.specs.Check.{Checked, number_of as check_number, place_of as check_place, checked_job}
 use Rattle.matcher.specs.declared.answer.Matched.{Matched}
 use Rattle.matcher.specs.Match.{number_of, place_of, joins_of, Passes, job_of}
 use Rattle.matcher.specs.Demands.{Met, MetCounted, FirstUnmet}

@@ -12,8 +12,7 @@ use native.Mathlib.Omega.{arith}
 use lib.ListN.{length, take, drop}
 use lib.Seq.{take_at}
 use Rattle.answering.specs.Buffers.{changes_nothing, left}
-use Rattle.checker.specs.declared.answer.Checked.{Checked}
-use Rattle.checker.specs.Check.{CheckOf, number_of as check_number}
+use Rattle.checker.specs.Check.{Checked, CheckOf, number_of as check_number}
 use Rattle.checker.proofs.OneCheck.{check_answer_only}
 use Rattle.matcher.specs.declared.answer.Matched.{Matched}
 use Rattle.matcher.specs.Match.{MatchOf, number_of}

@@ -10,6 +10,7 @@ use mathlib.Core.List.{List, [], ◌∷◌, ◌++◌}
 use Prim.Native.Nat.{ℕ, ◌+◌, ◌*◌, ◌≤◌, ◌<◌}
 use native.Mathlib.Decide.{dec_lt}
 use native.Mathlib.Omega.{arith}
+use Rattle.std.specs.Prelude.{Ok, Err}
 use lib.ListN.{length, take}
 use lib.Seq.{take_all}
 use Rattle.words.specs.Limits.{most_entries}
@@ -28,7 +29,6 @@ use Rattle.table.proofs.Pairs.{pair_place}
 use Rattle.table.proofs.Children.{kind_node}
 use Rattle.table.proofs.PassedCheck.{passed_check}
 use Rattle.table.proofs.OneAnswer.{check_off_list}
-use Rattle.checker.specs.declared.answer.Checked.{Checked}
 use Rattle.checker.specs.Check.{CheckOf}
 use Rattle.matcher.specs.declared.answer.Matched.{Matched}
 use Rattle.matcher.specs.Match.{job_of, MatchOf, Passes}
@@ -37,7 +37,7 @@ use Rattle.matcher.specs.Steps.PassedAll.{PassedAll}
 -- ---- the check's answer is the match's
 
 module _ {t class work : List ℕ} (list : List ℕ) {class_after work_after : List ℕ} where
-  pub check_refused : {fault : TableFault} → CheckOf t class work (Checked.Refused fault) class_after work_after → MatchOf t list class work (Matched.Table fault) class_after work_after
+  pub check_refused : {fault : TableFault} → CheckOf t class work (Err fault) class_after work_after → MatchOf t list class work (Matched.Table fault) class_after work_after
   check_refused {fault} c =
       record {
         answered =
@@ -51,7 +51,7 @@ module _ {t class work : List ℕ} (list : List ℕ) {class_after work_after : L
       is_refused : fault_number fault ≡ 0 → ⊥
       is_refused z = omega (arith, z, (known fault).1)
 
-  pub check_passed : CheckOf t class work Checked.Accepted class_after work_after → NoneOf (Fault (job_of t list class work)) check_order
+  pub check_passed : CheckOf t class work (Ok tt) class_after work_after → NoneOf (Fault (job_of t list class work)) check_order
   unfolding number
   check_passed c = (passed_none number (Fault (job_of t list class work)) check_order 0 0 refl refl (check_off_list t (length class) (length work) [] list 0 0 c.answered)).0
 

@@ -6,6 +6,7 @@ use mathlib.Core.Bool.{Bool, true, false}
 use mathlib.Core.List.{List, [], ◌∷◌, ◌++◌}
 use Prim.Native.Nat.{ℕ, ◌+◌, ◌*◌, ◌≤◌, ◌<◌}
 use native.Mathlib.Omega.{arith}
+use Rattle.std.specs.Prelude.{Ok}
 use lib.ListN.{length, drop, replicate}
 use Rattle.words.specs.Limits.{most_entries}
 use Rattle.words.specs.declared.numbers.PairNumber.{PairNumber}
@@ -16,8 +17,7 @@ use Rattle.answering.specs.Buffers.{changes_nothing, left}
 use Rattle.answering.proofs.BufferLaws.{left-zeroed}
 use Rattle.graphs.specs.Partition.{pairs_of}
 use Rattle.table.specs.Faults.{Job, pair_at, bad_sides, LIST, Fault, number, check_order, match_order}
-use Rattle.checker.specs.declared.answer.Checked.{Checked}
-use Rattle.checker.specs.Check.{CheckOf}
+use Rattle.checker.specs.Check.{Checked, CheckOf}
 use Rattle.matcher.specs.declared.answer.Matched.{Matched}
 use Rattle.matcher.specs.Match.{number_of, place_of, joins_of, AcceptedWith, job_of, MatchOf, Passes}
 use Rattle.matcher.specs.Steps.PassedAll.{BadList}
@@ -32,7 +32,7 @@ check_is {t} {class} {work} {class₁} {work₁} c e = subst (λ (a : Checked). 
 job_same : (t list class work class₁ work₁ : List ℕ) → length class₁ ≡ length class → length work₁ ≡ length work → job_of t list class₁ work₁ ≡ job_of t list class work
 job_same t list class work class₁ work₁ ec ew = λ i. record { table = t; list = list; class_room = ec i; work_room = ew i }
 
-module _ {t class work class₁ work₁ : List ℕ} (list : List ℕ) (check : CheckOf t class work Checked.Accepted class₁ work₁) (class_long : length class₁ ≡ length class) (work_long : length work₁ ≡ length work) where
+module _ {t class work class₁ work₁ : List ℕ} (list : List ℕ) (check : CheckOf t class work (Ok tt) class₁ work₁) (class_long : length class₁ ≡ length class) (work_long : length work₁ ≡ length work) where
   class_zero : class₁ ≡ zeroed (length t) class
   unfolding left changes_nothing
   class_zero = check.class_left

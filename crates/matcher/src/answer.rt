@@ -2,7 +2,7 @@
 ghost use Rattle.std.specs.Prelude.{◌≡◌};
 ghost use Rattle.matcher.specs.Match.{number_of, place_of, joins_of};
 
-use answering::fault;
+use answering::answer::Answer;
 use answering::fault::TableFault;
 use words::numbers::PairNumber;
 
@@ -30,7 +30,7 @@ pub fn number(answer: Matched) -> u16
 {
     match answer {
         Matched::Accepted(_) => 0,
-        Matched::Table(wrong) => fault::number(wrong),
+        Matched::Table(wrong) => wrong.number(),
         Matched::List => 8,
         Matched::Side(_) => 9,
         Matched::Clash(_) => 10,
@@ -44,7 +44,7 @@ pub fn place(answer: Matched) -> u16
 {
     match answer {
         Matched::Accepted(_) => 0,
-        Matched::Table(wrong) => fault::place(wrong),
+        Matched::Table(wrong) => wrong.place(),
         Matched::List => 0,
         Matched::Side(k) => k.0,
         Matched::Clash(k) => k.0,

@@ -17,7 +17,6 @@ ghost use Rattle.matcher.specs.Steps.FirstFailure.{TablePassed, Verdict};
 ghost use Rattle.matcher.specs.Match.{MatchOf};
 
 use answer::Matched;
-use checker::answer::Checked;
 use words::numbers::PairNumber;
 
 // The answer for a table that passed its check.
@@ -44,7 +43,7 @@ pub fn match_list(table: &[u32], list: &[u16], class: &mut [u16], work: &mut [u1
     ensures { MatchOf table.now list.now class.old work.old result class.new work.new }
 {
     match checker::check(table, class, work) {
-        Checked::Accepted => match_checked(table, list, class, work),
-        Checked::Refused(wrong) => Matched::Table(wrong),
+        Ok(()) => match_checked(table, list, class, work),
+        Err(wrong) => Matched::Table(wrong),
     }
 }

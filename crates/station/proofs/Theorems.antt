@@ -11,8 +11,7 @@ use Rattle.answering.proofs.Orders.{answered_alike, answered_only}
 use Rattle.graphs.specs.Partition.{joins}
 use Rattle.graphs.proofs.Theorems.{class_table_only}
 use Rattle.table.specs.Table.{graph_of}
-use Rattle.checker.specs.Check.{number_of as check_number, place_of as check_place, joins_of as check_joins}
-use Rattle.checker.specs.declared.answer.Checked.{Checked}
+use Rattle.checker.specs.Check.{Checked, number_of as check_number, place_of as check_place, joins_of as check_joins}
 use Rattle.checker.proofs.OneCheck.{check_only}
 use Rattle.matcher.specs.Match.{number_of, place_of, joins_of}
 use Rattle.matcher.specs.declared.answer.Matched.{Matched}

@@ -1,8 +1,7 @@
 -- What the entries on lent buffers return and leave: a match or a table check with its answer as one number, and the writer.
 -- Assumes nothing.
 use Rattle.std.specs.Prelude.{◌≡◌, List, ℕ}
-use Rattle.checker.specs.Check.{CheckOf, number_of as check_number, place_of as check_place, joins_of as check_joins}
-use Rattle.checker.specs.declared.answer.Checked.{Checked}
+use Rattle.checker.specs.Check.{Checked, CheckOf, number_of as check_number, place_of as check_place, joins_of as check_joins}
 use Rattle.matcher.specs.Match.{MatchOf, number_of, place_of, joins_of}
 use Rattle.matcher.specs.declared.answer.Matched.{Matched}
 use Rattle.jobfile.specs.Writer.{WriteOf, number_of as write_number}

@@ -3,8 +3,7 @@ use Rattle.std.specs.Prelude.{◌≡◌, List, [], ◌∷◌, ℕ, zero, suc, �
 use Rattle.words.specs.Limits.{most_words}
 use Rattle.answering.specs.Answers.{Answered}
 use Rattle.table.specs.Faults.{sent, Row, Fault, number}
-use Rattle.checker.specs.declared.answer.Checked.{Checked}
-use Rattle.checker.specs.Check.{number_of, place_of}
+use Rattle.checker.specs.Check.{Checked, number_of, place_of}
 
 -- Rows that speak of the table alone answer so, whatever the list and the room.
 abbrev pub ByRows : List Row → List ℕ → Checked → Type 0

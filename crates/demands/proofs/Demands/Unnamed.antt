@@ -8,8 +8,7 @@ use Rattle.answering.specs.Answers.{Lowest}
 use Rattle.table.specs.Table.{content_at}
 use Rattle.table.specs.Faults.{StoodEarlier, Repeats}
 use Rattle.table.specs.Relabelled.{Relabelled}
-use Rattle.checker.specs.declared.answer.Checked.{Checked}
-use Rattle.checker.specs.Check.{CheckOf, number_of as check_number, place_of as check_place, checked_job}
+use Rattle.checker.specs.Check.{Checked, CheckOf, number_of as check_number, place_of as check_place, checked_job}
 use Rattle.matcher.specs.declared.answer.Matched.{Matched}
 use Rattle.matcher.specs.Match.{MatchOf, Passes, number_of, place_of, joins_of, job_of}
 use Rattle.jobfile.specs.Jobs.{table_of, list_of}
