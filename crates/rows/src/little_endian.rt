@@ -1,5 +1,6 @@
 // Numbers in a row of bytes. Document 01, 'The job file': "All numbers are little-endian, 16 bits except table words."
-ghost use Rattle.std.specs.Prelude.{◌≡◌, ℕ, ◌+◌, ◌≤◌, length};
+ghost use Rattle.std.specs.Prelude.{◌≡◌, ℕ, ◌+◌, ◌≤◌, ◌<◌, length};
+ghost use Rattle.std.proofs.Common.{lit<};
 ghost use Rattle.rows.specs.LittleEndian.{from_bytes, number_at, bytes_of};
 ghost use Rattle.rows.specs.Placed.{placed};
 
@@ -17,6 +18,8 @@ pub trait LittleEndian: Copy {
     fn from_bytes(bytes: &[u8]) -> Self
         requires { length bytes.now ≡ WIDTH }
         ensures { result ≡ of_number (from_bytes bytes.now) };
+
+    ghost some_bytes: { 0 < WIDTH };
 }
 
 // An address, a label, a size or a count.
@@ -30,6 +33,8 @@ impl LittleEndian for u16 {
     fn from_bytes(bytes: &[u8]) -> u16 {
         u16::from_le_bytes([bytes[0], bytes[1]])
     }
+
+    ghost some_bytes = { lit< tt };
 }
 
 // A table word.
@@ -43,6 +48,8 @@ impl LittleEndian for u32 {
     fn from_bytes(bytes: &[u8]) -> u32 {
         u32::from_le_bytes([bytes[0], bytes[1], bytes[2], bytes[3]])
     }
+
+    ghost some_bytes = { lit< tt };
 }
 
 // Returns the number of a type that stands in the bytes from place `at` on.

@@ -1,7 +1,7 @@
 -- `jobfile::reader::put_sizes` meets its contract.
 -- Assumes nothing.
 use mathlib.Core.Path.{sym, ◌∙◌}
-use Rattle.rows.proofs.Laws.{built_none, built_more, built_all}
+use Rattle.rows.proofs.Laws.{built_none, built_more}
 use Rattle.jobfile.specs.File.{count_in}
 use Rattle.jobfile.proofs.FileLaws.{length-sizes_from}
 use Rattle.jobfile.proofs.reader.put_sizes.Goals as goal
@@ -12,9 +12,3 @@ loop-i-init c = let p = c.requires in
 
 pub loop-i-preserved : goal.loop-i-preserved
 loop-i-preserved c = built_more 0 c.loop-i.invariant c.loop-i-test.true c.size_at.ensures
-
-pub shape_of-row : goal.shape_of-row
-shape_of-row c = c.loop-i.invariant.same_length
-
-pub returns : goal.returns
-returns c = built_all c.loop-i.invariant c.loop-i-test.false
