@@ -3,18 +3,18 @@
 -- In order: the pairs of children (`child_pairs_next`); the meetings one after the other (`Going`); the last waiting pair
 -- leaves the work row (`popped`); until none waits (`Settling`). Assumes nothing.
 use mathlib.Core.Path.{◌≡◌, refl, sym, ap, ◌∙◌, subst}
-use mathlib.Core.Bool.{true, false}
 use mathlib.Core.Logic.{⊎_elim}
 use mathlib.Core.List.Memᴰ
 use mathlib.Core.List.{List, [], ◌∷◌, ◌++◌}
 use Prim.Native.Nat.{ℕ, zero, suc, ◌+◌, ◌-◌, ◌*◌, ◌≤◌, ◌<◌}
 use native.Mathlib.Decide.{ℕ_discrete}
 use native.Mathlib.Omega.{arith}
+use Rattle.std.specs.Prelude.{Result, Ok, Err}
 use Rattle.graphs.specs.Partition.{Pair, ◌∈◌, Same, classes}
 use Rattle.table.specs.Readable.{PassedCheck}
 use Rattle.table.specs.Table.{graph_of, degree, child_of}
-use Rattle.classes.specs.Steps.Meeting.{OneSymbol, waiting_left, waiting_right, State, Within, Agrees, Complete, Moved, Turned, went_on, clashed, Meets, GoesDown, child_pairs, Settled, all_joined, clash_met}
-use Rattle.classes.specs.declared.meet.Turn.{Turn}
+use Rattle.classes.specs.Steps.Meeting.{OneSymbol, waiting_left, waiting_right, State, Within, Agrees, Complete, Moved, Stopped, Turned, went_on, Meets, GoesDown, child_pairs, Settled, all_joined}
+use Rattle.classes.specs.declared.meet.Clash.{Clash as ClashMet}
 use Rattle.classes.proofs.Symbols.{one_symbol_children}
 use Rattle.classes.proofs.Moves.{moved_none, moved_join, stopped_after, waiting_moved, clash_stops}
 
@@ -74,7 +74,7 @@ module _ {t row₀ work₀ : List ℕ} {waiting₀ f g d : ℕ} {row work : List
   pub going_state : State t row work waiting
   going_state = (going.moved []).state
 
-  next_met : i < d → {row_after work_after : List ℕ} {turn : Turn} {l r : ℕ} → l ≡ child_of t f i → r ≡ child_of t g i → Meets t row work waiting l r row_after work_after turn
+  next_met : i < d → {row_after work_after : List ℕ} {turn : Result ℕ ClashMet} {l r : ℕ} → l ≡ child_of t f i → r ≡ child_of t g i → Meets t row work waiting l r row_after work_after turn
       → (owed : List Pair) → Turned t (record { row = row; work = work; waiting = waiting; owed = child_pairs t f g i (d - i) ++ owed }) row_after work_after (child_pairs t f g (i + 1) (d - (i + 1)) ++ owed) turn
   next_met h {row_after} {work_after} {turn} {l} {r} el er m owed =
       subst (λ (o : List Pair). Turned t (record { row = row; work = work; waiting = waiting; owed = o }) row_after work_after (child_pairs t f g (i + 1) (d - (i + 1)) ++ owed) turn)
@@ -84,14 +84,14 @@ module _ {t row₀ work₀ : List ℕ} {waiting₀ f g d : ℕ} {row work : List
       )
       (m (child_pairs t f g (i + 1) (d - (i + 1)) ++ owed))
 
-  module _ {row_after work_after : List ℕ} {turn : Turn} {l r : ℕ} (h : i < d) (el : l ≡ child_of t f i) (er : r ≡ child_of t g i) (m : Meets t row work waiting l r row_after work_after turn) where
-    pub going_on : {more : ℕ} → turn ≡ Turn.Waiting more → Going t row₀ work₀ waiting₀ f g d row_after work_after more (i + 1)
+  module _ {row_after work_after : List ℕ} {turn : Result ℕ ClashMet} {l r : ℕ} (h : i < d) (el : l ≡ child_of t f i) (er : r ≡ child_of t g i) (m : Meets t row work waiting l r row_after work_after turn) where
+    pub going_on : {more : ℕ} → turn ≡ Ok more → Going t row₀ work₀ waiting₀ f g d row_after work_after more (i + 1)
     going_on e = record { within = omega arith; moved = λ owed. moved_join (going.moved owed) (waiting_moved (next_met h el er m owed) e) }
 
-    pub going_stops : turn ≡ Turn.Clash → (owed : List Pair) → Turned t (record { row = row₀; work = work₀; waiting = waiting₀; owed = child_pairs t f g 0 d ++ owed }) row_after work_after owed Turn.Clash
-    going_stops e owed = clashed (stopped_after (going.moved owed) (clash_stops (next_met h el er m owed) e))
+    pub going_stops : {met : ClashMet} → turn ≡ Err met → (owed : List Pair) → Stopped t (record { row = row₀; work = work₀; waiting = waiting₀; owed = child_pairs t f g 0 d ++ owed }) row_after work_after
+    going_stops e owed = stopped_after (going.moved owed) (clash_stops (next_met h el er m owed) e)
 
-  pub going_ends : d ≤ i → (owed : List Pair) → Turned t (record { row = row₀; work = work₀; waiting = waiting₀; owed = child_pairs t f g 0 d ++ owed }) row work owed (Turn.Waiting waiting)
+  pub going_ends : d ≤ i → (owed : List Pair) → Turned t (record { row = row₀; work = work₀; waiting = waiting₀; owed = child_pairs t f g 0 d ++ owed }) row work owed (Ok waiting)
   going_ends h owed =
       went_on (subst (λ (o : List Pair). Moved t (record { row = row₀; work = work₀; waiting = waiting₀; owed = child_pairs t f g 0 d ++ owed }) (record { row = row; work = work; waiting = waiting; owed = o }))
       (ap (λ (o : List Pair). o ++ owed) (ap (λ (z : ℕ). child_pairs t f g i (z - i)) (let e : d ≡ i = omega (arith, going.within) in e) ∙ child_pairs_none t f g i)) (going.moved owed))
@@ -168,24 +168,24 @@ module _ {t row work : List ℕ} {waiting : ℕ} (checked : PassedCheck t) (stat
 pub record Settling (t row₀ work₀ : List ℕ) (waiting₀ : ℕ) (row work : List ℕ) (waiting : ℕ) : Type 0 where
   pub moved : (owed : List Pair) → Moved t (record { row = row₀; work = work₀; waiting = waiting₀; owed = owed }) (record { row = row; work = work; waiting = waiting; owed = owed })
 
-module _ {t row₀ work₀ row work row_after work_after : List ℕ} {waiting₀ waiting : ℕ} {turn : Turn} (checked : PassedCheck t) (settling : Settling t row₀ work₀ waiting₀ row work waiting) (some : 0 < waiting)
+module _ {t row₀ work₀ row work row_after work_after : List ℕ} {waiting₀ waiting : ℕ} {turn : Result ℕ ClashMet} (checked : PassedCheck t) (settling : Settling t row₀ work₀ waiting₀ row work waiting) (some : 0 < waiting)
     (down : GoesDown t row work (waiting - 1) (waiting_left work (waiting - 1)) (waiting_right work (waiting - 1)) row_after work_after turn) where
   last_popped : (owed : List Pair) → Moved t (record { row = row₀; work = work₀; waiting = waiting₀; owed = owed })
       (record { row = row; work = work; waiting = waiting - 1; owed = child_pairs t (waiting_left work (waiting - 1)) (waiting_right work (waiting - 1)) 0 (degree t (waiting_left work (waiting - 1))) ++ owed })
   last_popped owed = moved_join (settling.moved owed) (popped checked (settling.moved []).state some owed)
 
-  pub settling_on : {more : ℕ} → turn ≡ Turn.Waiting more → Settling t row₀ work₀ waiting₀ row_after work_after more
+  pub settling_on : {more : ℕ} → turn ≡ Ok more → Settling t row₀ work₀ waiting₀ row_after work_after more
   settling_on e = record { moved = λ owed. moved_join (last_popped owed) (waiting_moved (down owed) e) }
 
   -- each pair that goes down leaves less to do
-  pub settling_less : {more : ℕ} → turn ≡ Turn.Waiting more → 2 * classes (graph_of t) row_after + more < 2 * classes (graph_of t) row + waiting
+  pub settling_less : {more : ℕ} → turn ≡ Ok more → 2 * classes (graph_of t) row_after + more < 2 * classes (graph_of t) row + waiting
   settling_less e = omega (arith, (waiting_moved (down []) e).less)
 
-  pub settling_stops : turn ≡ Turn.Clash → (owed : List Pair) → Settled t (record { row = row₀; work = work₀; waiting = waiting₀; owed = owed }) row_after work_after owed false
-  settling_stops e owed = clash_met (stopped_after (last_popped owed) (clash_stops (down owed) e))
+  pub settling_stops : {met : ClashMet} → turn ≡ Err met → (owed : List Pair) → Stopped t (record { row = row₀; work = work₀; waiting = waiting₀; owed = owed }) row_after work_after
+  settling_stops e owed = stopped_after (last_popped owed) (clash_stops (down owed) e)
 
 pub settling_ends : {t row₀ work₀ row work : List ℕ} {waiting₀ waiting : ℕ} → Settling t row₀ work₀ waiting₀ row work waiting → waiting ≤ 0
-    → (owed : List Pair) → Settled t (record { row = row₀; work = work₀; waiting = waiting₀; owed = owed }) row work owed true
+    → (owed : List Pair) → Settled t (record { row = row₀; work = work₀; waiting = waiting₀; owed = owed }) row work owed (Ok tt)
 settling_ends {t} {row₀} {work₀} {row} {work} {waiting₀} {waiting} settling h owed =
     all_joined (subst (λ (k : ℕ). Moved t (record { row = row₀; work = work₀; waiting = waiting₀; owed = owed }) (record { row = row; work = work; waiting = k; owed = owed }))
     (let e : waiting ≡ 0 = omega arith in e) (settling.moved owed))

@@ -6,12 +6,13 @@ use mathlib.Core.List.{List, ◌∷◌}
 use Prim.Native.Nat.{ℕ, ◌≤◌, ◌<◌}
 use native.Mathlib.Decide.{ℕ_discrete}
 use native.Mathlib.Omega.{arith}
+use Rattle.std.specs.Prelude.{Result}
 use Rattle.words.specs.declared.numbers.Address.{Address}
 use Rattle.graphs.specs.Partition.{Pair, Same, swapped, key}
 use Rattle.table.specs.Readable.{PassedCheck}
 use Rattle.table.specs.Table.{graph_of}
 use Rattle.classes.specs.Steps.Meeting.{State, Within, Agrees, Complete, Moved, Meets, Roots, Ordered}
-use Rattle.classes.specs.declared.meet.Turn.{Turn}
+use Rattle.classes.specs.declared.meet.Clash.{Clash as ClashMet}
 use Rattle.classes.proofs.Linked.{key_only}
 use Rattle.classes.proofs.Moves.{turned_after}
 
@@ -66,18 +67,16 @@ module _ {t row work : List ℕ} {waiting : ℕ} (a b : ℕ) (owed : List Pair) 
   turned_pair state =
       record { state = state; within = turned_within; complete = turned_complete; less = omega arith; kept = record { row_long = refl; work_long = refl; row_behind = refl; work_behind = refl } }
 
-pub meets_turned : {t row work : List ℕ} {waiting a b : ℕ} {row_after work_after : List ℕ} {turn : Turn} → State t row work waiting
+pub meets_turned : {t row work : List ℕ} {waiting a b : ℕ} {row_after work_after : List ℕ} {turn : Result ℕ ClashMet} → State t row work waiting
     → Meets t row work waiting b a row_after work_after turn → Meets t row work waiting a b row_after work_after turn
 meets_turned {a} {b} state m owed = turned_after (turned_pair a b owed state) (m owed)
 
--- ---- two roots under other names
+-- ---- two roots in a pair
 
-pub ordered_as : {t row : List ℕ} {a b name later : Address} → name ≡ a → later ≡ b → Ordered t row a.0 b.0 → Ordered t row name.0 later.0
-ordered_as {t} {row} {b} {name} e f o =
-    subst (λ (x : Address). Ordered t row name.0 x.0) (sym f) (subst (λ (x : Address). Ordered t row x.0 b.0) (sym e) o)
+pub ordered_as : {t row : List ℕ} {p : Address × Address} {a b : Address} → p ≡ (a, b) → Ordered t row a.0 b.0 → Ordered t row p.0.0 p.1.0
+ordered_as {t} {row} e o = subst (λ (q : Address × Address). Ordered t row q.0.0 q.1.0) (sym e) o
 
-pub meets_as : {t row work : List ℕ} {waiting : ℕ} {a b name later : Address} {row_after work_after : List ℕ} {turn : Turn} → name ≡ a → later ≡ b
-    → Meets t row work waiting name.0 later.0 row_after work_after turn → Meets t row work waiting a.0 b.0 row_after work_after turn
-meets_as {t} {row} {work} {waiting} {a} {later} {row_after} {work_after} {turn} e f m =
-    subst (λ (x : Address). Meets t row work waiting a.0 x.0 row_after work_after turn) f
-    (subst (λ (x : Address). Meets t row work waiting x.0 later.0 row_after work_after turn) e m)
+pub meets_as : {t row work : List ℕ} {waiting : ℕ} {p : Address × Address} {a b : Address} {row_after work_after : List ℕ} {turn : Result ℕ ClashMet} → p ≡ (a, b)
+    → Meets t row work waiting p.0.0 p.1.0 row_after work_after turn → Meets t row work waiting a.0 b.0 row_after work_after turn
+meets_as {t} {row} {work} {waiting} {row_after} {work_after} {turn} e m =
+    subst (λ (q : Address × Address). Meets t row work waiting q.0.0 q.1.0 row_after work_after turn) e m

@@ -1,13 +1,13 @@
 -- Steps one after the other. Assumes nothing.
 use mathlib.Core.Path.{◌≡◌, refl, ◌∙◌, subst}
-use mathlib.Core.Bool.{Bool, true, false}
 use mathlib.Core.List.{List}
 use Prim.Native.Nat.{ℕ}
 use native.Mathlib.Omega.{arith}
+use Rattle.std.specs.Prelude.{true, false, Result, Ok, Err, is_err, IsErr}
 use Rattle.graphs.specs.Partition.{Pair}
 use Rattle.graphs.proofs.Classes.{never}
 use Rattle.classes.specs.Steps.Meeting.{State, Config, RestKept, Moved, Stopped, Turned, went_on, clashed, Settled, all_joined, clash_met}
-use Rattle.classes.specs.declared.meet.Turn.{Turn}
+use Rattle.classes.specs.declared.meet.Clash.{Clash as ClashMet}
 
 pub kept_none : {t : List ℕ} {c : Config} → RestKept t c c
 kept_none = record { row_long = refl; work_long = refl; row_behind = refl; work_behind = refl }
@@ -37,31 +37,39 @@ moved_join m n =
 pub stopped_after : {t : List ℕ} {a b : Config} {row work : List ℕ} → Moved t a b → Stopped t b row work → Stopped t a row work
 stopped_after m s = record { clash = λ pairs i. s.clash pairs (m.within pairs i); kept = kept_join m.kept s.kept }
 
-pub turned_after : {t : List ℕ} {a b : Config} {row work : List ℕ} {owed : List Pair} {turn : Turn} → Moved t a b → Turned t b row work owed turn → Turned t a row work owed turn
+pub turned_after : {t : List ℕ} {a b : Config} {row work : List ℕ} {owed : List Pair} {turn : Result ℕ ClashMet} → Moved t a b → Turned t b row work owed turn → Turned t a row work owed turn
 turned_after m (went_on n) = went_on (moved_join m n)
 turned_after m (clashed s) = clashed (stopped_after m s)
 
-pub settled_after : {t : List ℕ} {a b : Config} {row work : List ℕ} {owed : List Pair} {answer : Bool} → Moved t a b → Settled t b row work owed answer → Settled t a row work owed answer
+pub settled_after : {t : List ℕ} {a b : Config} {row work : List ℕ} {owed : List Pair} {answer : Result (Unit {0}) ClashMet} → Moved t a b → Settled t b row work owed answer → Settled t a row work owed answer
 settled_after m (all_joined n) = all_joined (moved_join m n)
 settled_after m (clash_met s) = clash_met (stopped_after m s)
 
 -- ---- what a step came to, where that is known
 
-pub waiting_moved : {t : List ℕ} {a : Config} {row work : List ℕ} {owed : List Pair} {turn : Turn} {waiting : ℕ} → Turned t a row work owed turn → turn ≡ Turn.Waiting waiting
+pub waiting_moved : {t : List ℕ} {a : Config} {row work : List ℕ} {owed : List Pair} {turn : Result ℕ ClashMet} {waiting : ℕ} → Turned t a row work owed turn → turn ≡ Ok waiting
     → Moved t a (record { row = row; work = work; waiting = waiting; owed = owed })
 waiting_moved {t} {a} {row} {work} {owed} {waiting} (went_on {waiting = w} n) e =
     subst (λ (k : ℕ). Moved t a (record { row = row; work = work; waiting = k; owed = owed })) (let p : w ≡ waiting = cc in p) n
 waiting_moved (clashed s) e = never (cc)
 
-pub clash_stops : {t : List ℕ} {a : Config} {row work : List ℕ} {owed : List Pair} {turn : Turn} → Turned t a row work owed turn → turn ≡ Turn.Clash → Stopped t a row work
+pub clash_stops : {t : List ℕ} {a : Config} {row work : List ℕ} {owed : List Pair} {turn : Result ℕ ClashMet} {met : ClashMet} → Turned t a row work owed turn → turn ≡ Err met → Stopped t a row work
 clash_stops (went_on n) e = never (cc)
 clash_stops (clashed s) e = s
 
-pub true_joined : {t : List ℕ} {a : Config} {row work : List ℕ} {owed : List Pair} {answer : Bool} → Settled t a row work owed answer → answer ≡ true
-    → Moved t a (record { row = row; work = work; waiting = 0; owed = owed })
-true_joined (all_joined n) e = n
-true_joined (clash_met s) e = never (cc)
+pub err_turned : {t : List ℕ} {a : Config} {row work : List ℕ} {owed : List Pair} (turn : Result ℕ ClashMet) → IsErr turn → Stopped t a row work → Turned t a row work owed turn
+err_turned (Ok waiting) e s = never (cc)
+err_turned (Err met) e s = clashed s
 
-pub false_stopped : {t : List ℕ} {a : Config} {row work : List ℕ} {owed : List Pair} {answer : Bool} → Settled t a row work owed answer → answer ≡ false → Stopped t a row work
-false_stopped (all_joined n) e = never (cc)
-false_stopped (clash_met s) e = s
+pub err_settled : {t : List ℕ} {a : Config} {row work : List ℕ} {owed : List Pair} (answer : Result (Unit {0}) ClashMet) → IsErr answer → Stopped t a row work → Settled t a row work owed answer
+err_settled (Ok done) e s = never (cc)
+err_settled (Err met) e s = clash_met s
+
+pub all_done : {t : List ℕ} {a : Config} {row work : List ℕ} {owed : List Pair} {answer : Result (Unit {0}) ClashMet} → Settled t a row work owed answer → is_err answer ≡ false
+    → Moved t a (record { row = row; work = work; waiting = 0; owed = owed })
+all_done (all_joined n) e = n
+all_done (clash_met s) e = never (cc)
+
+pub clash_done : {t : List ℕ} {a : Config} {row work : List ℕ} {owed : List Pair} {answer : Result (Unit {0}) ClashMet} → Settled t a row work owed answer → is_err answer ≡ true → Stopped t a row work
+clash_done (all_joined n) e = never (cc)
+clash_done (clash_met s) e = s

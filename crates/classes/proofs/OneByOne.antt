@@ -3,7 +3,6 @@
 -- In order: the pairs so far and one more; before the first (`begins`), with one more (`joins_on`), at a clash
 -- (`clashes_here`), and when all are joined. Assumes nothing.
 use mathlib.Core.Path.{◌≡◌, refl, sym, ◌∙◌, subst}
-use mathlib.Core.Bool.{Bool, true, false}
 use mathlib.Core.Logic.{◌⊎◌, inl, inr, ⊎_elim}
 use mathlib.Core.List.Memᴰ
 use mathlib.Core.List.{List, [], ◌∷◌, ◌++◌, append-nil}
@@ -11,6 +10,7 @@ use Prim.Native.Nat.{ℕ, zero, suc, ◌+◌, ◌*◌, ◌≤◌, ◌<◌}
 use native.Mathlib.Omega.{arith}
 use lib.ListN.{length, get_or, set, take}
 use lib.Seq.{take-length}
+use Rattle.std.specs.Prelude.{true, false, Result, Ok, is_err}
 use Rattle.graphs.specs.Graph.{Node}
 use Rattle.graphs.specs.Partition.{Pair, pairs_of, ◌∈◌, Sides, Same, paired, Clash}
 use Rattle.graphs.proofs.Classes.{same_grows, first_pairs_grow}
@@ -19,11 +19,12 @@ use Rattle.table.specs.Table.{graph_of}
 use Rattle.table.specs.Faults.{pair_at}
 use Rattle.table.proofs.Pairs.{pair_at_entries}
 use Rattle.classes.specs.Steps.Forest.{Forest}
+use Rattle.classes.specs.declared.meet.Clash.{Clash as ClashMet}
 use Rattle.classes.specs.Steps.Meeting.{State, Within, Agrees, Complete, Settled}
-use Rattle.classes.specs.Steps.Lists.{JoinsPair, resting, Holding, JoinedBefore, ClashesAt, EachJoined}
+use Rattle.classes.specs.Steps.Lists.{JoinsPair, resting, Holding, JoinedBefore, ClashesAt, EachJoined, each_joined}
 use Rattle.classes.proofs.Links.{shorter_none, root_exists}
 use Rattle.classes.proofs.Flat.{Flat, led_now, flat_none, flat_forest, flat_more, flat_all}
-use Rattle.classes.proofs.Moves.{kept_none, kept_join, true_joined, false_stopped}
+use Rattle.classes.proofs.Moves.{kept_none, kept_join, all_done, clash_done}
 use Rattle.classes.proofs.ClassTables.{flat_class_table}
 
 -- ---- the pairs so far and one more
@@ -114,16 +115,16 @@ begins {t} {list} {row} {work} state =
 
 module _ {t list row₀ work₀ row work : List ℕ} {i : ℕ} (so_far : JoinedBefore t list row₀ work₀ row work i) (inside : i < length (pairs_of list)) where
   -- the pair at place i has met, whatever its entries are called
-  module _ {left right : ℕ} (el : left ≡ get_or list (2 * i) 0) (er : right ≡ get_or list (2 * i + 1) 0) {row_after work_after : List ℕ} {answer : Bool} (met : JoinsPair t row work left right row_after work_after answer) where
+  module _ {left right : ℕ} (el : left ≡ get_or list (2 * i) 0) (er : right ≡ get_or list (2 * i + 1) 0) {row_after work_after : List ℕ} {answer : Result (Unit {0}) ClashMet} (met : JoinsPair t row work left right row_after work_after answer) where
     here : Settled t (record { row = row; work = work; waiting = 0; owed = pair_at (pairs_of list) i ∷ [] }) row_after work_after [] answer
     here =
         subst (λ (p : Pair). Settled t (record { row = row; work = work; waiting = 0; owed = p ∷ [] }) row_after work_after [] answer)
         (let e : ◌≡◌ {A = Pair} (record { left = left; right = right }) (record { left = get_or list (2 * i) 0; right = get_or list (2 * i + 1) 0 }) = (λ j. record { left = el j; right = er j }) in e ∙ sym (pair_at_entries list i inside))
         (met [])
 
-    pub joins_on : answer ≡ true → JoinedBefore t list row₀ work₀ row_after work_after (i + 1)
+    pub joins_on : is_err answer ≡ false → JoinedBefore t list row₀ work₀ row_after work_after (i + 1)
     joins_on e =
-        let m : _ = true_joined here e in
+        let m : _ = all_done here e in
         record {
           inside = omega arith;
           state = m.state;
@@ -136,9 +137,9 @@ module _ {t list row₀ work₀ row work : List ℕ} {i : ℕ} (so_far : JoinedB
               };
         }
 
-    pub clashes_here : PassedCheck t → Sides (graph_of t) (pairs_of list) → answer ≡ false → ClashesAt t list row₀ work₀ row_after work_after i
+    pub clashes_here : PassedCheck t → Sides (graph_of t) (pairs_of list) → is_err answer ≡ true → ClashesAt t list row₀ work₀ row_after work_after i
     clashes_here checked sides e =
-        let s : _ = false_stopped here e in
+        let s : _ = clash_done here e in
         record {
           inside = inside;
           kept = kept_join so_far.kept (record { row_long = s.kept.row_long; work_long = s.kept.work_long; row_behind = s.kept.row_behind; work_behind = s.kept.work_behind });
@@ -153,11 +154,8 @@ module _ {t list row₀ work₀ row work : List ℕ} {i : ℕ} (so_far : JoinedB
 
 -- ---- the outcome
 
-pub clash_found : {t list row₀ work₀ row work : List ℕ} {i : ℕ} → ClashesAt t list row₀ work₀ row work i → EachJoined t list row₀ work₀ row work i
-clash_found c = record { inside = omega (arith, c.inside); clashes = λ h. c; all = λ h. absurd (omega (arith, c.inside)) }
-
-pub all_met : {t list row₀ work₀ row work : List ℕ} {i : ℕ} → JoinedBefore t list row₀ work₀ row work i → length (pairs_of list) ≤ i → EachJoined t list row₀ work₀ row work i
-all_met j h = record { inside = j.inside; clashes = λ l. absurd (omega arith); all = λ l. j }
+pub all_met : {t list row₀ work₀ row work : List ℕ} {i : ℕ} → JoinedBefore t list row₀ work₀ row work i → i ≡ length (pairs_of list) → EachJoined t list row₀ work₀ row work (Ok tt)
+all_met {t} {list} {row₀} {work₀} {row} {work} j e = each_joined (subst (JoinedBefore t list row₀ work₀ row work) e j)
 
 -- both sides of the pair at a place are nodes
 pub side_nodes : (t list : List ℕ) → Sides (graph_of t) (pairs_of list) → (i : ℕ) → i < length (pairs_of list) → Node (graph_of t) (get_or list (2 * i) 0) × Node (graph_of t) (get_or list (2 * i + 1) 0)

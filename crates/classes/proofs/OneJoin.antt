@@ -8,12 +8,13 @@ use native.Mathlib.Decide.{dec_lt}
 use native.Mathlib.Omega.{arith}
 use lib.ListN.{length, take, take-append-drop}
 use lib.Seq.{take-length}
+use Rattle.std.specs.Prelude.{Result, Ok, Err}
+use Rattle.words.specs.declared.numbers.PairNumber.{PairNumber}
 use Rattle.rows.proofs.Laws.{equations_agree}
 use Rattle.graphs.specs.Partition.{Pair, pairs_of, Clash}
 use Rattle.graphs.proofs.Classes.{class_table_only, clash_grows, first_pairs_grow}
 use Rattle.table.specs.Table.{graph_of}
 use Rattle.classes.specs.Joining.{CanJoin, AllJoined, ClashAtPair, ByOutcome, JoinOf}
-use Rattle.classes.specs.declared.joining.Joined.{Joined}
 
 module _ (t : List ℕ) (earlier : List Pair) (list class : List ℕ) where
   -- a clash of the first pairs is one of more
@@ -39,13 +40,13 @@ module _ (t : List ℕ) (earlier : List Pair) (list class : List ℕ) where
   clash_and_none : {n : ℕ} {one two : List ℕ} → AllJoined t earlier list class one → ClashAtPair t earlier list class n two → ⊥
   clash_and_none a b = a.no_clash (whole (b.place + 1) (omega (arith, b.inside)) b.clash)
 
-  one_outcome : (r s : Joined) {one two : List ℕ} → ByOutcome t earlier list class r one → ByOutcome t earlier list class s two → (r ≡ s) × (one ≡ two)
-  one_outcome Joined.All Joined.All a b = (refl, both_joined a b)
-  one_outcome Joined.All (Joined.ClashAt k) a b = absurd (clash_and_none a b)
-  one_outcome (Joined.ClashAt j) Joined.All a b = absurd (clash_and_none b a)
-  one_outcome (Joined.ClashAt j) (Joined.ClashAt k) a b = (ap Joined.ClashAt (let e : j.0 ≡ k.0 = one_place a b in λ i. record { 0 = e i }), equations_agree a.cleared b.cleared)
+  one_outcome : (r s : Result (Unit {0}) PairNumber) {one two : List ℕ} → ByOutcome t earlier list class r one → ByOutcome t earlier list class s two → (r ≡ s) × (one ≡ two)
+  one_outcome (Ok p) (Ok q) a b = (refl, both_joined a b)
+  one_outcome (Ok p) (Err k) a b = absurd (clash_and_none a b)
+  one_outcome (Err j) (Ok q) a b = absurd (clash_and_none b a)
+  one_outcome (Err j) (Err k) a b = (ap Err (let e : j.0 ≡ k.0 = one_place a b in λ i. record { 0 = e i }), equations_agree a.cleared b.cleared)
 
-pub join_only : {t list class work : List ℕ} {r s : Joined} {class₁ work₁ class₂ work₂ : List ℕ} → CanJoin t list class (length work) → JoinOf t list class work r class₁ work₁ → JoinOf t list class work s class₂ work₂
+pub join_only : {t list class work : List ℕ} {r s : Result (Unit {0}) PairNumber} {class₁ work₁ class₂ work₂ : List ℕ} → CanJoin t list class (length work) → JoinOf t list class work r class₁ work₁ → JoinOf t list class work s class₂ work₂
     → (r ≡ s) × (class₁ ≡ class₂) × (work₁ ≡ work₂)
 join_only {t} {list} {class} {r = r} {s = s} (earlier, j) a b =
     let o : _ = one_outcome t earlier list class r s (a.outcome earlier j) (b.outcome earlier j) in

@@ -1,10 +1,10 @@
 -- What joining a row of pairs asks and answers. The sentences quoted are document 01's. Assumes nothing.
-use Rattle.std.specs.Prelude.{◌≡◌, List, ◌++◌, ℕ, ◌+◌, ◌*◌, ◌≤◌, ◌<◌, length, take, drop}
+use Rattle.std.specs.Prelude.{◌≡◌, Result, Ok, Err, List, ◌++◌, ℕ, ◌+◌, ◌*◌, ◌≤◌, ◌<◌, length, take, drop}
+use Rattle.words.specs.declared.numbers.PairNumber.{PairNumber}
 use Rattle.rows.specs.Placed.{zeroed}
 use Rattle.graphs.specs.Partition.{Pair, pairs_of, Sides, Clash, ClassTable}
 use Rattle.table.specs.Table.{graph_of}
 use Rattle.table.specs.Readable.{PassedCheck}
-use Rattle.classes.specs.declared.joining.Joined.{Joined}
 
 -- What a join asks: a table that passed its check; a class row that begins with the class table of the pairs joined earlier,
 -- which have no clash; a list of nodes, with no more pairs than a pair number can count; and two entries of work for each word.
@@ -37,11 +37,11 @@ pub record ClashAtPair (t : List ℕ) (earlier : List Pair) (list class : List �
   pub none_before : Clash (graph_of t) (earlier ++ take place (pairs_of list)) → ⊥
   pub cleared : class_after ≡ zeroed (length t) class
 
-abbrev pub ByOutcome : List ℕ → List Pair → List ℕ → List ℕ → Joined → List ℕ → Type 0
-ByOutcome t earlier list class Joined.All class_after = AllJoined t earlier list class class_after
-ByOutcome t earlier list class (Joined.ClashAt k) class_after = ClashAtPair t earlier list class k.0 class_after
+abbrev pub ByOutcome : List ℕ → List Pair → List ℕ → List ℕ → Result (Unit {0}) PairNumber → List ℕ → Type 0
+ByOutcome t earlier list class (Ok done) class_after = AllJoined t earlier list class class_after
+ByOutcome t earlier list class (Err k) class_after = ClashAtPair t earlier list class k.0 class_after
 
 -- What a join answers and leaves, whatever pairs the row was the class table of. The work entries in use become 0.
-pub record JoinOf (t list class work : List ℕ) (answer : Joined) (class_after work_after : List ℕ) : Type 0 where
+pub record JoinOf (t list class work : List ℕ) (answer : Result (Unit {0}) PairNumber) (class_after work_after : List ℕ) : Type 0 where
   pub outcome : (earlier : List Pair) → Joinable t earlier list class (length work) → ByOutcome t earlier list class answer class_after
   pub cleared : work_after ≡ zeroed (2 * length t) work

@@ -13,7 +13,7 @@ fn lead_to_root(table: &[u32], class: &mut [u16], x: Address)
 {
     let above = forest::up(class, x);
     let higher = forest::up(class, above);
-    if higher.0 != above.0 {
+    if higher != above {
         let name = forest::root(table, class, x);
         class[x.0 as usize] = name.0;
     }
@@ -24,9 +24,7 @@ pub fn flatten(table: &[u32], class: &mut [u16])
     requires { Forest table.now class.old × (length table.now ≤ most_words) }
     ensures { Flattened table.now class.old class.new }
 {
-    let mut x = 0;
-    while x < table.len() {
+    for x in 0..table.len() {
         lead_to_root(table, class, Address(x as u16));
-        x += 1;
     }
 }

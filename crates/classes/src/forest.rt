@@ -20,7 +20,7 @@ pub fn root(table: &[u32], class: &mut [u16], x: Address) -> Address
 {
     let mut at = x;
     let mut above = up(class, at);
-    while above.0 != at.0 {
+    while above != at {
         let higher = up(class, above);
         class[at.0 as usize] = higher.0;
         at = higher;

@@ -13,12 +13,9 @@ use words::meeting;
 use words::meeting::Outcome;
 use words::numbers::Address;
 
-// What a step comes to: how many pairs of functions wait now, or a clash.
-#[derive(Clone, Copy)]
-pub enum Turn {
-    Waiting(usize),
-    Clash,
-}
+// No terms make all pairs equal that were to be joined so far.
+#[derive(Clone, Copy, PartialEq, Eq)]
+pub struct Clash;
 
 // The place of a node in the naming order: non-variables before variables, and then by address.
 fn key(table: &[u32], x: Address) -> usize
@@ -27,8 +24,7 @@ fn key(table: &[u32], x: Address) -> usize
 {
     match table::head(table, x) {
         Head::Variable(_) => table.len() + x.0 as usize,
-        Head::Constant(_) => x.0 as usize,
-        Head::Function(_, _) => x.0 as usize,
+        Head::Constant(_) | Head::Function(_, _) => x.0 as usize,
     }
 }
 
@@ -42,7 +38,7 @@ fn push(work: &mut [u16], waiting: usize, f: Address, g: Address)
 }
 
 // Two roots meet, the first of which comes earlier in the naming order. Their heads say whether they
-// are joined, and whether their children meet later.
+// are joined, and whether their children meet later. Returns how many pairs of functions wait then.
 fn meet_ordered(
     table: &[u32],
     class: &mut [u16],
@@ -50,21 +46,21 @@ fn meet_ordered(
     waiting: usize,
     name: Address,
     later: Address,
-) -> Turn
+) -> Result<usize, Clash>
     requires { PassedCheck table.now × State table.now class.old work.old waiting × Ordered table.now class.old name.0 later.0 }
     ensures { Meets table.now class.old work.old waiting name.0 later.0 class.new work.new result }
 {
     match meeting::meet(table::head(table, name), table::head(table, later)) {
         Outcome::Joined => {
             class[later.0 as usize] = name.0;
-            Turn::Waiting(waiting)
+            Ok(waiting)
         }
         Outcome::JoinedGoDown => {
             class[later.0 as usize] = name.0;
             push(work, waiting, name, later);
-            Turn::Waiting(waiting + 1)
+            Ok(waiting + 1)
         }
-        Outcome::Clash => Turn::Clash,
+        Outcome::Clash => Err(Clash),
     }
 }
 
@@ -77,20 +73,19 @@ fn meet_roots(
     waiting: usize,
     a: Address,
     b: Address,
-) -> Turn
+) -> Result<usize, Clash>
     requires { PassedCheck table.now × State table.now class.old work.old waiting × Roots table.now class.old a.0 b.0 }
     ensures { Meets table.now class.old work.old waiting a.0 b.0 class.new work.new result }
 {
-    let mut name = b;
-    let mut later = a;
-    if key(table, a) < key(table, b) {
-        name = a;
-        later = b;
-    }
+    let (name, later) = if key(table, a) < key(table, b) {
+        (a, b)
+    } else {
+        (b, a)
+    };
     meet_ordered(table, class, work, waiting, name, later)
 }
 
-// Two nodes meet.
+// Two nodes meet. Returns how many pairs of functions wait then.
 pub fn meet(
     table: &[u32],
     class: &mut [u16],
@@ -98,14 +93,14 @@ pub fn meet(
     waiting: usize,
     left: Address,
     right: Address,
-) -> Turn
+) -> Result<usize, Clash>
     requires { PassedCheck table.now × State table.now class.old work.old waiting × Node (graph_of table.now) left.0 × Node (graph_of table.now) right.0 }
     ensures { Meets table.now class.old work.old waiting left.0 right.0 class.new work.new result }
 {
     let a = forest::root(table, class, left);
     let b = forest::root(table, class, right);
-    if a.0 == b.0 {
-        return Turn::Waiting(waiting);
+    if a == b {
+        return Ok(waiting);
     }
     meet_roots(table, class, work, waiting, a, b)
 }

@@ -11,14 +11,12 @@ pub fn apart(table: &[u32], class: &mut [u16])
     requires { (length table.now ≤ length class.old) × (length table.now ≤ most_words) }
     ensures { class.new ≡ apart_in (graph_of table.now) ++ drop (length table.now) class.old }
 {
-    let mut x = 0;
-    while x < table.len() {
-        if table::is_node_word(table[x]) {
-            class[x] = x as u16;
+    for (x, word) in table.iter().enumerate() {
+        class[x] = if table::is_node_word(*word) {
+            x as u16
         } else {
-            class[x] = 0;
-        }
-        x += 1;
+            0
+        };
     }
 }
 
@@ -29,12 +27,10 @@ pub fn count_joins(table: &[u32], class: &[u16]) -> u16
     ensures { result ≡ joins (graph_of table.now) class.now }
 {
     let mut joined = 0;
-    let mut x = 0;
-    while x < table.len() {
+    for x in 0..table.len() {
         if class[x] != 0 && class[x] != x as u16 {
             joined += 1;
         }
-        x += 1;
     }
     joined
 }

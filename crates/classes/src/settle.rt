@@ -4,7 +4,7 @@ ghost use Rattle.table.specs.Readable.{PassedCheck};
 ghost use Rattle.classes.specs.Steps.Meeting.{OneSymbol, waiting_left, waiting_right, State, GoesDown, Settles};
 
 use crate::meet;
-use crate::meet::Turn;
+use crate::meet::Clash;
 use words::numbers::Address;
 
 // The children of two functions with one symbol meet, place by place.
@@ -15,27 +15,26 @@ fn go_down(
     waiting: usize,
     f: Address,
     g: Address,
-) -> Turn
+) -> Result<usize, Clash>
     requires { PassedCheck table.now × State table.now class.old work.old waiting × OneSymbol table.now f.0 g.0 }
     ensures { GoesDown table.now class.old work.old waiting f.0 g.0 class.new work.new result }
 {
-    let count = table::degree(table, f);
     let mut waits = waiting;
-    let mut i = 0;
-    while i < count {
+    for i in 0..table::degree(table, f) {
         let left = table::child(table, f, i);
         let right = table::child(table, g, i);
-        let Turn::Waiting(more) = meet::meet(table, class, work, waits, left, right) else {
-            return Turn::Clash;
-        };
-        waits = more;
-        i += 1;
+        waits = meet::meet(table, class, work, waits, left, right)?;
     }
-    Turn::Waiting(waits)
+    Ok(waits)
 }
 
 // The last waiting pair goes down.
-fn settle_last(table: &[u32], class: &mut [u16], work: &mut [u16], waiting: usize) -> Turn
+fn settle_last(
+    table: &[u32],
+    class: &mut [u16],
+    work: &mut [u16],
+    waiting: usize,
+) -> Result<usize, Clash>
     requires { PassedCheck table.now × State table.now class.old work.old waiting × (0 < waiting) }
     ensures { GoesDown table.now class.old work.old (waiting - 1) (waiting_left work.old (waiting - 1)) (waiting_right work.old (waiting - 1)) class.new work.new result }
 {
@@ -45,17 +44,19 @@ fn settle_last(table: &[u32], class: &mut [u16], work: &mut [u16], waiting: usiz
     go_down(table, class, work, last, f, g)
 }
 
-// Lets the waiting pairs go down, the last first, until none waits. Returns false if there is a clash.
-pub fn settle(table: &[u32], class: &mut [u16], work: &mut [u16], waiting: usize) -> bool
+// Lets the waiting pairs go down, the last first, until none waits.
+pub fn settle(
+    table: &[u32],
+    class: &mut [u16],
+    work: &mut [u16],
+    waiting: usize,
+) -> Result<(), Clash>
     requires { PassedCheck table.now × State table.now class.old work.old waiting }
     ensures { Settles table.now class.old work.old waiting class.new work.new result }
 {
     let mut waits = waiting;
     while 0 < waits {
-        let Turn::Waiting(more) = settle_last(table, class, work, waits) else {
-            return false;
-        };
-        waits = more;
+        waits = settle_last(table, class, work, waits)?;
     }
-    true
+    Ok(())
 }

@@ -165,9 +165,8 @@ module _ {bytes : List ℕ} {job : ℕ} {table list class work room : List ℕ} 
 -- ---- the rows that are lent
 
 -- rows of one size, and a work row of four times that, have room for a table of no more words
-pub rows_fit : {bytes : List ℕ} {job n p room size list : ℕ} → JobFound bytes job n p room × (list ≡ list_room) × (n ≤ size)
-    → JobFound bytes job n p room × RowsFit n size list size (4 * size)
-rows_fit (found, lists, fits) = (found, (fits, lists, fits, omega arith))
+pub rows_fit : {n size list work : ℕ} → list ≡ list_room → n ≤ size → work ≡ 4 * size → RowsFit n size list size work
+rows_fit lists fits works = (fits, lists, fits, omega arith)
 
 -- the fronts of rows with room for it are just as long as it wants them, whatever the rows' own lengths
 pub lent_fronts : {bytes : List ℕ} {job n p entries : ℕ} (table list class work : List ℕ) {room : List ℕ} → JobFound bytes job n p (length room) → RowsFit n (length table) (length list) (length class) (length work)

@@ -1,18 +1,24 @@
 // A job that the host call found, in rows of the size that it has. Rows are new at each call, so nothing of the last one is
 // there, and a new row is cleared: rows for the largest table would cost a small job more than its match.
-ghost use Rattle.std.specs.Prelude.{◌≡◌, ◌≤◌, length};
+ghost use Rattle.std.specs.Prelude.{◌≡◌, ◌*◌, ◌≤◌, length};
 ghost use Rattle.words.specs.Limits.{most_words};
 ghost use Rattle.host.specs.Host.{HostOf};
 ghost use Rattle.host.specs.Steps.Choice.{JobFound};
-ghost use Rattle.host.specs.Steps.Rows.{list_room, small_row, middle_row, RowsFit};
+ghost use Rattle.host.specs.Steps.Rows.{list_room, RowsFit};
 
 use crate::job;
 use words::limits::MOST_WORDS;
 
-// Words of a small and of a middle table.
+// Words of a small and of a middle table, and the entries of a work row for them and for the largest.
 const SMALL: usize = 64;
 
+const SMALL_WORK: usize = 4 * SMALL;
+
 const MIDDLE: usize = 512;
+
+const MIDDLE_WORK: usize = 4 * MIDDLE;
+
+const LARGE_WORK: usize = 4 * MOST_WORDS;
 
 // Matches the job of n words and p pairs in the fronts of rows that have room for it.
 fn match_in(
@@ -41,7 +47,9 @@ fn match_in(
     )
 }
 
-fn match_small(
+// The same in new rows for a table of up to WORDS words. WORK is four times WORDS, which has to be said, since the
+// length of a row cannot be computed from a parameter.
+fn match_in_rows<const WORDS: usize, const WORK: usize>(
     file: &[u8],
     job: usize,
     n: usize,
@@ -49,50 +57,12 @@ fn match_small(
     list: &mut [u16],
     room: &mut [u8],
 ) -> u16
-    requires { JobFound file.now job n p (length room.old) × (length list.old ≡ list_room) × (n ≤ small_row) }
+    requires { JobFound file.now job n p (length room.old) × (length list.old ≡ list_room) × (n ≤ WORDS) × (WORDS ≤ most_words) × (WORK ≡ 4 * WORDS) }
     ensures { HostOf file.now job room.old result room.new }
 {
-    let mut table = [0u32; SMALL];
-    let mut class = [0u16; SMALL];
-    let mut work = [0u16; 4 * SMALL];
-    match_in(
-        file, job, n, p, &mut table, list, &mut class, &mut work, room,
-    )
-}
-
-fn match_middle(
-    file: &[u8],
-    job: usize,
-    n: usize,
-    p: usize,
-    list: &mut [u16],
-    room: &mut [u8],
-) -> u16
-    requires { JobFound file.now job n p (length room.old) × (length list.old ≡ list_room) × (n ≤ middle_row) }
-    ensures { HostOf file.now job room.old result room.new }
-{
-    let mut table = [0u32; MIDDLE];
-    let mut class = [0u16; MIDDLE];
-    let mut work = [0u16; 4 * MIDDLE];
-    match_in(
-        file, job, n, p, &mut table, list, &mut class, &mut work, room,
-    )
-}
-
-fn match_large(
-    file: &[u8],
-    job: usize,
-    n: usize,
-    p: usize,
-    list: &mut [u16],
-    room: &mut [u8],
-) -> u16
-    requires { JobFound file.now job n p (length room.old) × (length list.old ≡ list_room) × (n ≤ most_words) }
-    ensures { HostOf file.now job room.old result room.new }
-{
-    let mut table = [0u32; MOST_WORDS];
-    let mut class = [0u16; MOST_WORDS];
-    let mut work = [0u16; 4 * MOST_WORDS];
+    let mut table = [0u32; WORDS];
+    let mut class = [0u16; WORDS];
+    let mut work = [0u16; WORK];
     match_in(
         file, job, n, p, &mut table, list, &mut class, &mut work, room,
     )
@@ -111,10 +81,10 @@ pub(crate) fn match_found(
     ensures { HostOf file.now job room.old result room.new }
 {
     if n <= SMALL {
-        return match_small(file, job, n, p, list, room);
+        return match_in_rows::<SMALL, SMALL_WORK>(file, job, n, p, list, room);
     }
     if n <= MIDDLE {
-        return match_middle(file, job, n, p, list, room);
+        return match_in_rows::<MIDDLE, MIDDLE_WORK>(file, job, n, p, list, room);
     }
-    match_large(file, job, n, p, list, room)
+    match_in_rows::<MOST_WORDS, LARGE_WORK>(file, job, n, p, list, room)
 }

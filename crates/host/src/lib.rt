@@ -2,7 +2,6 @@
 // room; a file's sizes; and the numbers of an answer as one. Crate station is the entries themselves.
 #![tactic(auto)]
 
-pub mod checked;
 mod choice;
 mod found;
 mod job;
@@ -14,6 +13,7 @@ mod sizes;
 ghost use Rattle.host.specs.Host.{HostOf};
 
 use choice::Chosen;
+pub use packed::as_one;
 pub use sizes::read_sizes;
 use words::limits::MOST_ENTRIES;
 

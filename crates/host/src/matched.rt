@@ -14,5 +14,5 @@ pub fn as_one(answer: Matched) -> u64
     let number = answer::number(answer);
     let place = answer::place(answer);
     let joins = answer::joins(answer);
-    packed::as_one(number, place, joins)
+    packed::packed(number, place, joins)
 }

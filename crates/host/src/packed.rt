@@ -2,9 +2,18 @@
 ghost use Rattle.std.specs.Prelude.{◌≡◌};
 ghost use Rattle.host.specs.AsOne.{as_one};
 
+use answering::answer::Answer;
+
 // Answer + 65,536 x place + 4,294,967,296 x a third number: a match's joins, or a file's J.
-pub(crate) fn as_one(answer: u16, place: u16, joined: u16) -> u64
-    ensures { result ≡ as_one answer place joined }
+pub(crate) fn packed(answer: u16, place: u16, third: u16) -> u64
+    ensures { result ≡ as_one answer place third }
 {
-    answer as u64 + 65536 * place as u64 + 4294967296 * joined as u64
+    u64::from(answer) + 65536 * u64::from(place) + 4294967296 * u64::from(third)
+}
+
+// The same of any answer that has a number and a place.
+pub fn as_one<A: Answer>(answer: A, third: u16) -> u64
+    ensures { result ≡ as_one (A.number_of answer) (A.place_of answer) third }
+{
+    packed(answer.number(), answer.place(), third)
 }

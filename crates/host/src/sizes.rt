@@ -11,13 +11,13 @@ pub fn read_sizes(file: &[u8], sizes: &mut [u16]) -> u64
     let answer = jobfile::judge(file);
     let number = answers::file_number(answer);
     if number != 0 {
-        return packed::as_one(number, answers::file_place(answer), 0);
+        return packed::packed(number, answers::file_place(answer), 0);
     }
     let jobs = rows::read16(file, 0);
     let count = 2 * jobs as usize;
     if sizes.len() < count {
-        return packed::as_one(2, 0, 0);
+        return packed::packed(2, 0, 0);
     }
     jobfile::put_sizes(file, count, sizes);
-    packed::as_one(0, 0, jobs)
+    packed::packed(0, 0, jobs)
 }

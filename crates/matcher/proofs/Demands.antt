@@ -22,8 +22,7 @@ use Rattle.graphs.proofs.Theorems.{unifier_no_clash, unifier_no_cycle, no_pairs_
 use Rattle.table.specs.Table.{TableSymbols, graph_of}
 use Rattle.table.specs.Faults.{Job, FirstClash, FirstCycle, number, Fault, clash_fault, cycle_fault, check_order, list_rows, pair_rows, match_order}
 use Rattle.table.proofs.OneAnswer.{fault_once}
-use Rattle.matcher.specs.declared.answer.Matched.{Matched}
-use Rattle.matcher.specs.Match.{number_of, place_of, joins_of, AcceptedWith, job_of, MatchOf, Passes}
+use Rattle.matcher.specs.Match.{Matched, number_of, place_of, joins_of, AcceptedWith, job_of, MatchOf, Passes}
 use Rattle.matcher.specs.Demands.{Met, MetCounted, FirstUnmet}
 use Rattle.matcher.specs.Steps.PassedAll.{PassedAll}
 use Rattle.matcher.proofs.Verdicts.{ready, list_so_far, accepted_answered, clash_answered, cycle_answered}

@@ -5,10 +5,11 @@
 use mathlib.Core.Path.{◌≡◌, refl, sym, ap, ◌∙◌, subst}
 use mathlib.Core.List.Memᴰ
 use mathlib.Core.List.{List, [], ◌∷◌, ◌++◌}
-use Prim.Native.Nat.{ℕ, zero, suc, ◌+◌, ◌*◌, ◌≤◌, ◌<◌}
+use Prim.Native.Nat.{ℕ, zero, suc, ◌+◌, ◌-◌, ◌*◌, ◌≤◌, ◌<◌}
 use native.Mathlib.Omega.{arith}
 use lib.ListN.{length, take, drop}
 use lib.Seq.{take-take, length-take-le}
+use Rattle.std.specs.Prelude.{Result, Ok, Err, IsOk}
 use Rattle.words.specs.declared.numbers.PairNumber.{PairNumber}
 use Rattle.rows.specs.Placed.{zeroed}
 use Rattle.rows.proofs.Laws.{behind_stays, behind_cleared}
@@ -18,11 +19,10 @@ use Rattle.graphs.proofs.Theorems.{no_pairs_no_clash}
 use Rattle.graphs.proofs.Classes.{never, clash_grows, first_pairs_grow}
 use Rattle.table.specs.Table.{graph_of}
 use Rattle.table.proofs.Pairs.{pairs_of-take}
-use Rattle.classes.specs.declared.joining.Joined.{Joined}
 use Rattle.classes.specs.Joining.{Joinable, ByOutcome, JoinOf}
 use Rattle.classes.proofs.OwnClasses.{apart_front, apart_long}
 use Rattle.classes.proofs.OneByOne.{first_in_whole}
-use Rattle.matcher.specs.Steps.FirstFailure.{Standing, OnlyClassFront, Partitioned, FirstJoined, all_joined, clash_at, JoinsFirst, UntilClash}
+use Rattle.matcher.specs.Steps.FirstFailure.{Standing, OnlyClassFront, Partitioned, FirstJoined, all_joined, clash_at, JoinsFirst, unclashed, ClashesAt, UntilClash}
 
 -- ---- rows after a step
 
@@ -73,7 +73,7 @@ module _ {t list class work class_apart : List ℕ} {k : ℕ} (s : Standing t li
         numbered = omega (arith, s.ready.few, first_no_longer (2 * k) list);
       }
 
-  module _ {answer : Joined} {class_after work_after : List ℕ} (joined : JoinOf t (take (2 * k) list) class_apart work answer class_after work_after) (long_after : length class_after ≡ length class_apart) where
+  module _ {answer : Result (Unit {0}) PairNumber} {class_after work_after : List ℕ} (joined : JoinOf t (take (2 * k) list) class_apart work answer class_after work_after) (long_after : length class_after ≡ length class_apart) where
     work_kept : work_after ≡ work
     work_kept = joined.cleared ∙ s.clean
 
@@ -86,8 +86,8 @@ module _ {t list class work class_apart : List ℕ} {k : ℕ} (s : Standing t li
     pub joins_first : JoinsFirst t list class work k answer class_after work_after
     joins_first = go answer (joined.outcome [] first_joinable)
       where
-        go : (a : Joined) → ByOutcome t [] (take (2 * k) list) class_apart a class_after → JoinsFirst t list class work k a class_after work_after
-        go Joined.All o =
+        go : (a : Result (Unit {0}) PairNumber) → ByOutcome t [] (take (2 * k) list) class_apart a class_after → JoinsFirst t list class work k a class_after work_after
+        go (Ok done) o =
             record {
               lent = lent_by o.behind;
               joined =
@@ -96,7 +96,7 @@ module _ {t list class work class_apart : List ℕ} {k : ℕ} (s : Standing t li
                     no_clash = subst (λ (p : List Pair). Clash (graph_of t) p → ⊥) (pairs_of-take list k) o.no_clash;
                   });
             }
-        go (Joined.ClashAt at) o =
+        go (Err at) o =
             let below : o.place < k = omega (arith, o.inside, ap length (pairs_of-take list k), length-take-le k (pairs_of list) inside) in
             record {
               lent = lent_by (ap (drop (length t)) o.cleared ∙ behind_cleared class_apart (length t) (length t) (omega arith));
@@ -108,19 +108,28 @@ module _ {t list class work class_apart : List ℕ} {k : ℕ} (s : Standing t li
 
 -- ---- no clash among them
 
-pub all_partitioned : {t list class : List ℕ} {k : ℕ} {answer : Joined} → FirstJoined t list class k answer → (Clash (graph_of t) (take k (pairs_of list)) → ⊥) → Partitioned t list class k
+pub all_partitioned : {t list class : List ℕ} {k : ℕ} {answer : Result (Unit {0}) PairNumber} → FirstJoined t list class k answer → (Clash (graph_of t) (take k (pairs_of list)) → ⊥) → Partitioned t list class k
 all_partitioned (all_joined p) none_there = p
 all_partitioned {t} {list} {class} {k} (clash_at i e h clash before) none_there =
     absurd (none_there (clash_grows (first_pairs_grow (i + 1) k (pairs_of list) (omega arith)) clash))
 
+-- so joining them has no error
+pub all_there : {t list class : List ℕ} {k : ℕ} {answer : Result (Unit {0}) PairNumber} → FirstJoined t list class k answer → (Clash (graph_of t) (take k (pairs_of list)) → ⊥) → IsOk answer
+all_there (all_joined p) none_there = refl
+all_there {list = list} {k = k} (clash_at i e h clash before) none_there =
+    absurd (none_there (clash_grows (first_pairs_grow (i + 1) k (pairs_of list) (omega arith)) clash))
+
 -- ---- up to the first clash
 
-pub until_end : {t list class work class_after work_after : List ℕ} {k : ℕ} {answer : Joined} → JoinsFirst t list class work k answer class_after work_after → answer ≡ Joined.All → k ≡ length (pairs_of list)
-    → UntilClash t list class work k class_after work_after
-until_end {t} {list} {k = k} j e h =
-    record { lent = j.lent; inside = omega arith; partitioned = go j.joined e; next = λ l. absurd (omega arith) }
+-- no pair clashes
+pub until_end : {t list class work class_after work_after : List ℕ} {k : ℕ} {answer : Result (Unit {0}) PairNumber} {done : Unit {0}} → k ≡ length (pairs_of list)
+    → JoinsFirst t list class work k answer class_after work_after → answer ≡ Ok done → UntilClash t list class work answer class_after work_after
+until_end {t} {list} {class} {work} {class_after} {work_after} {k} {answer} {done} h j e =
+    let p : Partitioned t list class_after (length (pairs_of list)) = subst (Partitioned t list class_after) h (go j.joined e) in
+    subst (λ (a : Result (Unit {0}) PairNumber). UntilClash t list class work a class_after work_after) (sym e)
+    (record { lent = j.lent; inside = omega arith; partitioned = p; next = λ at q. never (cc) })
   where
-    go : {answer : Joined} {class_after : List ℕ} → FirstJoined t list class_after k answer → answer ≡ Joined.All → Partitioned t list class_after k
+    go : {answer : Result (Unit {0}) PairNumber} {class_after : List ℕ} → FirstJoined t list class_after k answer → answer ≡ Ok done → Partitioned t list class_after k
     go (all_joined p) q = p
     go (clash_at i f l c b) q = never (cc)
 
@@ -132,20 +141,39 @@ pub record ClashPlace (t list : List ℕ) (at : PairNumber) (k : ℕ) : Type 0 w
   pub clash : Clash (graph_of t) (take (place + 1) (pairs_of list))
   pub none_before : Clash (graph_of t) (take place (pairs_of list)) → ⊥
 
-pub clash_place : {t list class_after : List ℕ} {k : ℕ} {answer : Joined} {at : PairNumber} → FirstJoined t list class_after k answer → answer ≡ Joined.ClashAt at → ClashPlace t list at k
+pub clash_place : {t list class_after : List ℕ} {k : ℕ} {answer : Result (Unit {0}) PairNumber} {at : PairNumber} → FirstJoined t list class_after k answer → answer ≡ Err at → ClashPlace t list at k
 clash_place (all_joined p) e = never (cc)
 clash_place {at = at} (clash_at {at = b} i f l c n) e =
     record { place = i; numbers = ap (λ (p : PairNumber). p.0) (let q : at ≡ b = cc in q) ∙ f; inside = l; clash = c; none_before = n }
 
--- the pairs before the clash are joined afresh
-pub until_clash : {t list class work class_mid work_mid class_after work_after : List ℕ} {at : PairNumber} {k m : ℕ} {answer : Joined}
-    → OnlyClassFront t class work class_mid work_mid → ClashPlace t list at k → k ≤ length (pairs_of list) → m + 1 ≡ at.0
-    → JoinsFirst t list class_mid work_mid m answer class_after work_after → UntilClash t list class work m class_after work_after
-until_clash {t} {list} {m = m} lent c h e j =
-    let same : c.place ≡ m = omega (arith, c.numbers) in
-    record {
-      lent = lent_join lent j.lent;
-      inside = omega (arith, c.inside);
-      partitioned = all_partitioned j.joined (subst (λ (i : ℕ). Clash (graph_of t) (take i (pairs_of list)) → ⊥) same c.none_before);
-      next = λ l. subst (λ (i : ℕ). Clash (graph_of t) (take (i + 1) (pairs_of list))) same c.clash;
-    }
+module _ {t list class work class_mid work_mid : List ℕ} {at : PairNumber} {k : ℕ} {answer : Result (Unit {0}) PairNumber} (few : k ≤ length (pairs_of list))
+    (j : JoinsFirst t list class work k answer class_mid work_mid) (is : answer ≡ Err at) where
+  abbrev clash_there : ClashPlace t list at k
+  clash_there = clash_place j.joined is
+
+  -- the pairs before the clash
+  pub before_clash : (1 ≤ at.0) × (at.0 - 1 ≤ length (pairs_of list)) × (Clash (graph_of t) (take (at.0 - 1) (pairs_of list)) → ⊥)
+  before_clash = (
+    omega (arith, clash_there.numbers),
+    omega (arith, clash_there.numbers, clash_there.inside),
+    subst (λ (i : ℕ). Clash (graph_of t) (take i (pairs_of list)) → ⊥) (let e : clash_there.place ≡ at.0 - 1 = omega (arith, clash_there.numbers) in e) clash_there.none_before,
+  )
+
+  -- they are joined afresh
+  pub until_clash : {class_after work_after : List ℕ} {again : Result (Unit {0}) PairNumber} → JoinsFirst t list class_mid work_mid (at.0 - 1) again class_after work_after
+      → UntilClash t list class work answer class_after work_after
+  until_clash {class_after} {work_after} l =
+      subst (λ (a : Result (Unit {0}) PairNumber). UntilClash t list class work a class_after work_after) (sym is)
+      (record {
+        lent = lent_join j.lent l.lent;
+        inside = before_clash.1;
+        partitioned = all_partitioned l.joined before_clash.2;
+        next = λ b e.
+            let same : at ≡ b = cc in
+            subst (ClashesAt t list) same
+            (record {
+              from_1 = before_clash.0;
+              within = omega (arith, clash_there.numbers, clash_there.inside);
+              clash = subst (λ (i : ℕ). Clash (graph_of t) (take i (pairs_of list))) (sym clash_there.numbers) clash_there.clash;
+            });
+      })

@@ -1,7 +1,7 @@
 -- The first cycle: what one search tells, and the search by halving; and the verdicts 0, 10 and 11.
 --
--- In order: a search of the row (`row_tells`, `tells_cycle`); halves (`Halved`); the verdicts (`cycle_verdict`, `clash_verdict`,
--- `accepted_verdict`). Assumes nothing.
+-- In order: a search of the row (`row_tells`, `tells_cycle`); halves (`Halved`); the first failure (`cycle_fails`, `clash_fails`,
+-- `nothing_fails`); the verdicts (`refused_verdict`, `accepted_verdict`). Assumes nothing.
 use mathlib.Core.Path.{◌≡◌, refl, sym, ap, ◌∙◌, subst}
 use mathlib.Core.Bool.{Bool, true, false, ◌&&◌}
 use mathlib.Core.List.{List, ◌++◌}
@@ -9,25 +9,25 @@ use Prim.Native.Nat.{ℕ, zero, suc, ◌+◌, ◌-◌, ◌*◌, ◌≤◌, ◌<�
 use native.Mathlib.Omega.{arith}
 use lib.Dec.{eqb}
 use lib.ListN.{length, take, drop, replicate, take-append-drop}
-use lib.Seq.{take_all, get_or-take}
+use lib.Seq.{take-length, get_or-take}
+use Rattle.std.specs.Prelude.{Result, Ok, Err}
 use Rattle.words.specs.declared.numbers.PairNumber.{PairNumber}
 use Rattle.rows.specs.Placed.{zeroed}
 use Rattle.answering.specs.Answers.{Answered}
 use Rattle.answering.specs.Buffers.{changes_nothing}
 use Rattle.graphs.specs.Partition.{Pair, pairs_of, Clash, Cycle, ClassTable, is_node, nodes, classes, joins}
 use Rattle.graphs.proofs.Theorems.{no_pairs_no_cycle}
-use Rattle.graphs.proofs.Classes.{clash_grows, first_pairs_grow}
+use Rattle.graphs.proofs.Classes.{never, clash_grows, first_pairs_grow}
 use Rattle.table.specs.Table.{graph_of}
-use Rattle.table.specs.Faults.{FirstCycle, Fault, number, match_order}
+use Rattle.table.specs.Faults.{FirstClash, FirstCycle, Fault, number, match_order}
 use Rattle.cycles.specs.Digraph.{Searchable, Searched}
-use Rattle.classes.specs.declared.joining.Joined.{Joined}
 use Rattle.classes.specs.Counting.{NamesNodes}
 use Rattle.classes.proofs.CountedJoins.{front_names_nodes}
 use Rattle.classes.proofs.Counts.{count_same, own_node}
-use Rattle.matcher.specs.declared.answer.Matched.{Matched}
+use Rattle.matcher.specs.declared.answer.Refusal.{Refusal}
 use Rattle.matcher.specs.Match.{job_of, Passes}
 use Rattle.matcher.specs.Steps.PassedAll.{Cycles}
-use Rattle.matcher.specs.Steps.FirstFailure.{Standing, OnlyClassFront, Partitioned, JoinsFirst, UntilClash, Clashless, TellsCycle, CycleAt, Verdict}
+use Rattle.matcher.specs.Steps.FirstFailure.{Standing, OnlyClassFront, Partitioned, JoinsFirst, UntilClash, Clashless, TellsCycle, CycleAt, Failed, none_fails, clash_first, cycle_first, FirstFailed, unclashed, ClashesAt, Verdict}
 use Rattle.matcher.proofs.CycleSearch.{class_searchable, search_tells}
 use Rattle.matcher.proofs.Verdicts.{accepted_answered, clash_answered, cycle_answered}
 use Rattle.matcher.proofs.FirstPairs.{lent_join, lent_none, standing_after, first_sides, all_partitioned}
@@ -56,7 +56,7 @@ module _ {t list class work : List ℕ} {k : ℕ} (s : Standing t list class wor
     row_lent = record { class_long = refl; class_behind = refl; work_same = searched.cleared ∙ s.clean }
 
 -- what `has_cycle` does
-pub tells_cycle : {t list class work class_mid work_mid work_after : List ℕ} {k : ℕ} {answer : Joined} {found : Bool} → Standing t list class_mid work_mid → Clashless t list k
+pub tells_cycle : {t list class work class_mid work_mid work_after : List ℕ} {k : ℕ} {answer : Result (Unit {0}) PairNumber} {found : Bool} → Standing t list class_mid work_mid → Clashless t list k
     → JoinsFirst t list class work k answer class_mid work_mid → Searched t class_mid work_mid found work_after → TellsCycle t list class work k found class_mid work_after
 tells_cycle s few j searched =
     let p : Partitioned _ _ _ _ = all_partitioned j.joined few.no_clash in
@@ -115,6 +115,66 @@ halved_end {t} {list} {few = few} {many = many} h e =
       none_before = h.none_yet;
     }
 
+-- ---- the first failure
+
+module _ {t list class work class_mid work_mid work_search : List ℕ} {joined : Result (Unit {0}) PairNumber} {found : Bool} (s : Standing t list class work) (until : UntilClash t list class work joined class_mid work_mid)
+    (searched : Searched t class_mid work_mid found work_search) where
+  both_lent : OnlyClassFront t class work class_mid work_search
+  both_lent = lent_join until.lent (row_lent (standing_after s until.lent) until.inside until.partitioned searched)
+
+  tells : Cycles found (graph_of t) (take (unclashed list joined) (pairs_of list))
+  tells = row_tells (standing_after s until.lent) until.inside until.partitioned searched
+
+  -- what the search for the first cycle asks
+  pub cycle_found : found ≡ true → {many : ℕ} → many ≡ unclashed list joined → Standing t list class_mid work_search × Clashless t list many × Cycle (graph_of t) (take many (pairs_of list))
+  cycle_found e same = (
+    standing_after s both_lent,
+    subst (Clashless t list) (sym same) (record { inside = until.inside; no_clash = until.partitioned.no_clash }),
+    subst (λ (k : ℕ). Cycle (graph_of t) (take k (pairs_of list))) (sym same) (subst (λ (b : Bool). Cycles b (graph_of t) (take (unclashed list joined) (pairs_of list))) e tells),
+  )
+
+  -- the pairs that are joined have a cycle
+  pub cycle_fails : {many : ℕ} → many ≡ unclashed list joined → {class_after work_after : List ℕ} {at : PairNumber} → CycleAt t list class_mid work_search many at.0 class_after work_after
+      → FirstFailed t list class work (Err (Refusal.Cycle at)) class_after work_after
+  cycle_fails {many} same {class_after} {work_after} {at} c =
+      let joined_clashless : Clashless t list many = subst (Clashless t list) (sym same) (record { inside = until.inside; no_clash = until.partitioned.no_clash }) in
+      let first : FirstCycle (graph_of t) (pairs_of list) c.place =
+      record {
+        within = omega (arith, joined_clashless.inside, c.within, c.numbers);
+        cycle = c.cycle;
+        no_clash = (fewer_clashless (c.place + 1) joined_clashless (omega (arith, c.within, c.numbers))).no_clash;
+        no_clash_before = (fewer_clashless c.place joined_clashless (omega (arith, c.within, c.numbers))).no_clash;
+        no_cycle_before = c.none_before;
+      } in
+      record { lent = lent_join both_lent c.lent; failed = cycle_first c.place c.numbers first }
+
+  -- they have none, so a clash is the first failure, or nothing fails
+  module _ (none_there : found ≡ false) where
+    no_cycle : Cycle (graph_of t) (take (unclashed list joined) (pairs_of list)) → ⊥
+    no_cycle = subst (λ (b : Bool). Cycles b (graph_of t) (take (unclashed list joined) (pairs_of list))) none_there tells
+
+    pub clash_fails : {at : PairNumber} → joined ≡ Err at → FirstFailed t list class work (Err (Refusal.Clash at)) class_mid work_search
+    clash_fails {at} e =
+        let next : ClashesAt t list at = until.next at e in
+        let count : unclashed list joined ≡ at.0 - 1 = ap (unclashed list) e in
+        let first : FirstClash (graph_of t) (pairs_of list) (at.0 - 1) =
+        record {
+          within = omega (arith, next.from_1, next.within);
+          clash = subst (λ (k : ℕ). Clash (graph_of t) (take k (pairs_of list))) (let q : at.0 ≡ at.0 - 1 + 1 = omega (arith, next.from_1) in q) next.clash;
+          no_clash_before = subst (λ (k : ℕ). Clash (graph_of t) (take k (pairs_of list)) → ⊥) count until.partitioned.no_clash;
+          no_cycle_before = subst (λ (k : ℕ). Cycle (graph_of t) (take k (pairs_of list)) → ⊥) count no_cycle;
+        } in
+        record { lent = both_lent; failed = clash_first (at.0 - 1) (omega (arith, next.from_1)) first }
+
+    pub nothing_fails : {done : Unit {0}} → joined ≡ Ok done → FirstFailed t list class work (Ok done) class_mid work_search
+    nothing_fails e =
+        record {
+          lent = both_lent;
+          failed =
+              none_fails (subst (Partitioned t list class_mid) (ap (unclashed list) e) until.partitioned)
+              (subst (λ (k : ℕ). Cycle (graph_of t) (take k (pairs_of list)) → ⊥) (ap (unclashed list) e) no_cycle);
+        }
+
 -- ---- the answers
 
 -- the joins are counted in the first n entries
@@ -125,94 +185,69 @@ front_joins t row =
     (count_same (own_node (graph_of t) row) (own_node (graph_of t) (take (length t) row)) (length t)
     (λ x h. ap (λ (z : ℕ). is_node ((graph_of t).head x) && eqb z x) (sym (get_or-take (length t) row x 0 h))))
 
-cleared_row : (t class class_mid : List ℕ) {class_after : List ℕ} → drop (length t) class_mid ≡ drop (length t) class → class_after ≡ zeroed (length t) class_mid → class_after ≡ zeroed (length t) class
-cleared_row t class class_mid k e = e ∙ ap (λ (rest : List ℕ). replicate (length t) 0 ++ rest) k
+-- all pairs are joined
+pub whole_joined : {t list class : List ℕ} {answer : Result (Unit {0}) Refusal} {done : Unit {0}} → Failed t list class answer → answer ≡ Ok done → Partitioned t list class (length (pairs_of list))
+whole_joined (none_fails p n) e = p
+whole_joined (clash_first i n f) e = never (cc)
+whole_joined (cycle_first i n f) e = never (cc)
 
-module _ {t list class work : List ℕ} (passes : Passes (job_of t list class work)) where
-  pub cycle_verdict : {class_mid work_mid class_after : List ℕ} {all found : ℕ} → Clashless t list all → CycleAt t list class work all found class_mid work_mid
-      → class_after ≡ zeroed (length t) class_mid → (at : PairNumber) → at.0 ≡ found → Verdict t list class work (Matched.Cycle at) class_after work_mid
+none_cycles : {t list class : List ℕ} {answer : Result (Unit {0}) Refusal} {done : Unit {0}} → Failed t list class answer → answer ≡ Ok done → Cycle (graph_of t) (take (length (pairs_of list)) (pairs_of list)) → ⊥
+none_cycles (none_fails p n) e = n
+none_cycles (clash_first i n f) e = never (cc)
+none_cycles (cycle_first i n f) e = never (cc)
+
+module _ {t list class work class_mid work_mid : List ℕ} (passes : Passes (job_of t list class work)) {failure : Result (Unit {0}) Refusal}
+    (first : FirstFailed t list class work failure class_mid work_mid) where
+  pub refused_verdict : {refusal : Refusal} → failure ≡ Err refusal → {class_after : List ℕ} → class_after ≡ zeroed (length t) class_mid
+      → Verdict t list class work (Err refusal) class_after work_mid
+  refused_verdict {refusal} is {class_after} e = go first.failed is
+    where
+      cleared_row : class_after ≡ zeroed (length t) class
+      cleared_row = e ∙ ap (λ (rest : List ℕ). replicate (length t) 0 ++ rest) first.lent.class_behind
+
+      clash_at_place : {at : PairNumber} (i : ℕ) → at.0 ≡ i + 1 → FirstClash (graph_of t) (pairs_of list) i → Verdict t list class work (Err (Refusal.Clash at)) class_after work_mid
+      unfolding changes_nothing
+      clash_at_place i n f =
+          record {
+            answered = subst (λ (p : ℕ). Answered number (Fault (job_of t list class work)) match_order 10 p) (sym n) (clash_answered passes i f);
+            late = refl;
+            bound = λ z. absurd (omega arith);
+            refused = λ z. cleared_row;
+            work_same = first.lent.work_same;
+          }
+
+      cycle_at_place : {at : PairNumber} (i : ℕ) → at.0 ≡ i + 1 → FirstCycle (graph_of t) (pairs_of list) i → Verdict t list class work (Err (Refusal.Cycle at)) class_after work_mid
+      unfolding changes_nothing
+      cycle_at_place i n f =
+          record {
+            answered = subst (λ (p : ℕ). Answered number (Fault (job_of t list class work)) match_order 11 p) (sym n) (cycle_answered passes i f);
+            late = refl;
+            bound = λ z. absurd (omega arith);
+            refused = λ z. cleared_row;
+            work_same = first.lent.work_same;
+          }
+
+      go : {answer : Result (Unit {0}) Refusal} {class_there : List ℕ} → Failed t list class_there answer → answer ≡ Err refusal → Verdict t list class work (Err refusal) class_after work_mid
+      go (none_fails p n) q = never (cc)
+      go (clash_first {at = at} i n f) q = subst (λ (r : Refusal). Verdict t list class work (Err r) class_after work_mid) (let same : Refusal.Clash at ≡ refusal = cc in same) (clash_at_place i n f)
+      go (cycle_first {at = at} i n f) q = subst (λ (r : Refusal). Verdict t list class work (Err r) class_after work_mid) (let same : Refusal.Cycle at ≡ refusal = cc in same) (cycle_at_place i n f)
+
+  pub accepted_verdict : {done : Unit {0}} → failure ≡ Ok done → {counted : ℕ} → counted ≡ joins (graph_of t) class_mid
+      → Verdict t list class work (Ok (record { joins = counted })) class_mid work_mid
   unfolding changes_nothing
-  cycle_verdict {all = all} few c e at n =
-      let place : at.0 ≡ c.place + 1 = n ∙ c.numbers in
-      let inside : c.place + 1 ≤ all = omega (arith, c.within, c.numbers) in
-      let first : FirstCycle (graph_of t) (pairs_of list) c.place =
+  accepted_verdict is {counted} e =
+      let whole : take (length (pairs_of list)) (pairs_of list) ≡ pairs_of list = take-length (pairs_of list) in
+      let joined : Partitioned t list class_mid (length (pairs_of list)) = whole_joined first.failed is in
       record {
-        within = omega (arith, few.inside);
-        cycle = c.cycle;
-        no_clash = (fewer_clashless (c.place + 1) few inside).no_clash;
-        no_clash_before = (fewer_clashless c.place few (omega arith)).no_clash;
-        no_cycle_before = c.none_before;
-      } in
-      record {
-        answered = subst (λ (p : ℕ). Answered number (Fault (job_of t list class work)) match_order 11 p) (sym place) (cycle_answered passes c.place first);
+        answered = accepted_answered passes (subst (λ (p : List Pair). Clash (graph_of t) p → ⊥) whole joined.no_clash) (subst (λ (p : List Pair). Cycle (graph_of t) p → ⊥) whole (none_cycles first.failed is));
         late = refl;
-        bound = λ z. absurd (omega arith);
-        refused = λ z. cleared_row t class _ c.lent.class_behind e;
-        work_same = c.lent.work_same;
+        bound = λ z.
+            record {
+              table = take (length t) class_mid;
+              class_table = subst (λ (p : List Pair). ClassTable (graph_of t) p (take (length t) class_mid)) whole joined.class_table;
+              row = sym (take-append-drop (length t) class_mid) ∙ ap (λ (rest : List ℕ). take (length t) class_mid ++ rest) first.lent.class_behind;
+              joins_counted = e ∙ front_joins t class_mid;
+            };
+        refused = λ z. absurd (z refl);
+        work_same = first.lent.work_same;
       }
-
-  module _ {class_mid work_mid work_after : List ℕ} {m : ℕ} (s : Standing t list class_mid work_mid) (until : UntilClash t list class work m class_mid work_mid)
-      (none_there : Searched t class_mid work_mid false work_after) where
-    no_cycle : Cycle (graph_of t) (take m (pairs_of list)) → ⊥
-    no_cycle = row_tells s until.inside until.partitioned none_there
-
-    work_kept : work_after ≡ work
-    work_kept = (row_lent s until.inside until.partitioned none_there).work_same ∙ until.lent.work_same
-
-    pub clash_verdict : {class_after : List ℕ} → m < length (pairs_of list) → class_after ≡ zeroed (length t) class_mid → (at : PairNumber) → at.0 ≡ m + 1
-        → Verdict t list class work (Matched.Clash at) class_after work_after
-    unfolding changes_nothing
-    clash_verdict h e at n =
-        record {
-          answered = subst (λ (p : ℕ). Answered number (Fault (job_of t list class work)) match_order 10 p) (sym n)
-              (clash_answered passes m (record { within = h; clash = until.next h; no_clash_before = until.partitioned.no_clash; no_cycle_before = no_cycle }));
-          late = refl;
-          bound = λ z. absurd (omega arith);
-          refused = λ z. cleared_row t class _ until.lent.class_behind e;
-          work_same = work_kept;
-        }
-
-    pub accepted_verdict : length (pairs_of list) ≤ m → {joined : ℕ} → joined ≡ joins (graph_of t) class_mid → Verdict t list class work (Matched.Accepted (record { joins = joined })) class_mid work_after
-    unfolding changes_nothing
-    accepted_verdict h {joined} e =
-        let whole : take m (pairs_of list) ≡ pairs_of list = take_all m (pairs_of list) h in
-        record {
-          answered = accepted_answered passes (subst (λ (p : List Pair). Clash (graph_of t) p → ⊥) whole until.partitioned.no_clash) (subst (λ (p : List Pair). Cycle (graph_of t) p → ⊥) whole no_cycle);
-          late = refl;
-          bound = λ z.
-              record {
-                table = take (length t) class_mid;
-                class_table = subst (λ (p : List Pair). ClassTable (graph_of t) p (take (length t) class_mid)) whole until.partitioned.class_table;
-                row = sym (take-append-drop (length t) class_mid) ∙ ap (λ (rest : List ℕ). take (length t) class_mid ++ rest) until.lent.class_behind;
-                joins_counted = e ∙ front_joins t class_mid;
-              };
-          refused = λ z. absurd (z refl);
-          work_same = work_kept;
-        }
-
--- ---- where the joined pairs have a cycle
-
-pub told : {t class work work_after : List ℕ} {found answer : Bool} → Searched t class work found work_after → found ≡ answer → Searched t class work answer work_after
-told {t} {class} {work} {work_after} s e = subst (λ (b : Bool). Searched t class work b work_after) e s
-
-module _ {t list class work class_mid work_mid work_search : List ℕ} {m : ℕ} {found : Bool} (s : Standing t list class work) (until : UntilClash t list class work m class_mid work_mid)
-    (searched : Searched t class_mid work_mid found work_search) where
-  joined_clashless : Clashless t list m
-  joined_clashless = record { inside = until.inside; no_clash = until.partitioned.no_clash }
-
-  both_lent : OnlyClassFront t class work class_mid work_search
-  both_lent = lent_join until.lent (row_lent (standing_after s until.lent) until.inside until.partitioned searched)
-
-  -- what the search for the first cycle asks
-  pub cycle_found : found ≡ true → Standing t list class_mid work_search × Clashless t list m × Cycle (graph_of t) (take m (pairs_of list))
-  cycle_found e = (
-    standing_after s both_lent,
-    joined_clashless,
-    subst (λ (b : Bool). Cycles b (graph_of t) (take m (pairs_of list))) e (row_tells (standing_after s until.lent) until.inside until.partitioned searched),
-  )
-
-  pub cycle_refused : Passes (job_of t list class work) → {class_cycle work_cycle class_after : List ℕ} {first : ℕ} → CycleAt t list class_mid work_search m first class_cycle work_cycle
-      → class_after ≡ zeroed (length t) class_cycle → (at : PairNumber) → at.0 ≡ first → Verdict t list class work (Matched.Cycle at) class_after work_cycle
-  cycle_refused passes c e at n =
-      cycle_verdict passes joined_clashless
-      (record { lent = lent_join both_lent c.lent; place = c.place; numbers = c.numbers; within = c.within; cycle = c.cycle; none_before = c.none_before }) e at n

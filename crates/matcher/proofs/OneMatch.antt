@@ -9,6 +9,8 @@ use native.Mathlib.Omega.{arith}
 use borrow.Author.Tests.{ne_eqb, le-leb}
 use lib.Dec.{eqb, leb}
 use lib.ListN.{length, drop}
+use Rattle.std.specs.Prelude.{Result, Ok, Err}
+use Rattle.answering.specs.declared.fault.TableFault.{TableFault}
 use Rattle.answering.specs.Answers.{Answered}
 use Rattle.answering.specs.TableFaults.{number_of as fault_number}
 use Rattle.answering.specs.Buffers.{left}
@@ -19,28 +21,29 @@ use Rattle.graphs.proofs.Theorems.{class_table_only}
 use Rattle.table.specs.Table.{graph_of}
 use Rattle.table.specs.Faults.{Job, sent, Fault, number, match_order}
 use Rattle.table.proofs.OneAnswer.{fault_once}
-use Rattle.matcher.specs.declared.answer.Matched.{Matched}
-use Rattle.matcher.specs.Match.{number_of, place_of, joins_of, job_of, MatchOf}
+use Rattle.matcher.specs.declared.answer.Refusal.{Refusal}
+use Rattle.matcher.specs.Match.{Matched, number_of, place_of, joins_of, job_of, MatchOf}
 
 -- the answer that has a number, a place and joins
 answer_with : ℕ → ℕ → ℕ → Matched
 answer_with n p j =
-    cond (eqb n 0) (Matched.Accepted (record { joins = j }))
-    (cond (leb n 7) (Matched.Table (fault_with n p))
-    (cond (eqb n 8) Matched.List
-    (cond (eqb n 9) (Matched.Side (record { 0 = p }))
-    (cond (eqb n 10) (Matched.Clash (record { 0 = p }))
-    (Matched.Cycle (record { 0 = p }))))))
+    cond (eqb n 0) (Ok (record { joins = j }))
+    (cond (leb n 7) (Err (Refusal.Table (fault_with n p)))
+    (cond (eqb n 8) (Err Refusal.List)
+    (cond (eqb n 9) (Err (Refusal.Side (record { 0 = p })))
+    (cond (eqb n 10) (Err (Refusal.Clash (record { 0 = p })))
+    (Err (Refusal.Cycle (record { 0 = p })))))))
 
 answer_by_numbers : (r : Matched) → answer_with (number_of r) (place_of r) (joins_of r) ≡ r
 unfolding answer_with
-answer_by_numbers (Matched.Accepted counts) = refl
-answer_by_numbers (Matched.Table fault) =
-    rw (ne_eqb (fault_number fault) 0 (λ z. omega (arith, z, (known fault).1)), le-leb (fault_number fault) 7 (known fault).2) (ap Matched.Table (known fault).0)
-answer_by_numbers Matched.List = refl
-answer_by_numbers (Matched.Side k) = refl
-answer_by_numbers (Matched.Clash k) = refl
-answer_by_numbers (Matched.Cycle k) = refl
+answer_by_numbers (Ok counts) = refl
+answer_by_numbers (Err (Refusal.Table fault)) =
+    rw (ne_eqb (fault_number fault) 0 (λ z. omega (arith, z, (known fault).1)), le-leb (fault_number fault) 7 (known fault).2)
+    (ap (λ (f : TableFault). Err (Refusal.Table f)) (known fault).0)
+answer_by_numbers (Err Refusal.List) = refl
+answer_by_numbers (Err (Refusal.Side k)) = refl
+answer_by_numbers (Err (Refusal.Clash k)) = refl
+answer_by_numbers (Err (Refusal.Cycle k)) = refl
 
 -- Answers of one number, one place and one count of joins are equal.
 pub numbers_fix_answer : (r s : Matched) → number_of r ≡ number_of s → place_of r ≡ place_of s → joins_of r ≡ joins_of s → r ≡ s
@@ -52,12 +55,8 @@ numbers_fix_answer r s n p j =
 
 -- "Joins is 0 on refusal."
 pub refused_joins : (r : Matched) → (number_of r ≡ 0 → ⊥) → joins_of r ≡ 0
-refused_joins (Matched.Accepted counts) z = absurd (z refl)
-refused_joins (Matched.Table fault) z = refl
-refused_joins Matched.List z = refl
-refused_joins (Matched.Side k) z = refl
-refused_joins (Matched.Clash k) z = refl
-refused_joins (Matched.Cycle k) z = refl
+refused_joins (Ok counts) z = absurd (z refl)
+refused_joins (Err refusal) z = refl
 
 -- Two matches of one table and list on rows of the same lengths. What the rows held before does not count.
 module _ {t list class work class' work' : List ℕ} {r s : Matched} {class₁ work₁ class₂ work₂ : List ℕ} (class_long : length class ≡ length class') (work_long : length work ≡ length work') (a : MatchOf t list class work r class₁ work₁) (b : MatchOf t list class' work' s class₂ work₂) where

@@ -3,22 +3,23 @@
 -- In order: the check's answer is the match's (`check_refused`, `check_passed`); the list (`list_answered`, `list_clear`,
 -- `side_answered`, `passes_all`); what a job has that passes all checks (`ready`); the pairs (`accepted_answered`,
 -- `clash_answered`, `cycle_answered`). Assumes nothing.
-use mathlib.Core.Path.{◌≡◌, refl, subst}
+use mathlib.Core.Path.{◌≡◌, refl, sym, ◌∙◌, subst}
+use Rattle.std.proofs.lemmas.Bool.{false≢true}
 use mathlib.Core.Bool.{Bool, true, false, not, ◌&&◌}
 use mathlib.Core.Logic.{◌⊎◌, inl, inr, ⊎_elim}
 use mathlib.Core.List.{List, [], ◌∷◌, ◌++◌}
 use Prim.Native.Nat.{ℕ, ◌+◌, ◌*◌, ◌≤◌, ◌<◌}
 use native.Mathlib.Decide.{dec_lt}
 use native.Mathlib.Omega.{arith}
-use Rattle.std.specs.Prelude.{Ok, Err}
 use lib.ListN.{length, take}
 use lib.Seq.{take_all}
+use Rattle.std.specs.Prelude.{Option, Some, None, Ok, Err}
 use Rattle.words.specs.Limits.{most_entries}
 use Rattle.answering.specs.declared.fault.TableFault.{TableFault}
-use Rattle.answering.specs.Answers.{First, Answered, NoneOf}
+use Rattle.answering.specs.Answers.{Found, Answered, NoneOf}
 use Rattle.answering.specs.TableFaults.{number_of as fault_number, place_of as fault_place}
 use Rattle.answering.proofs.FaultLaws.{known}
-use Rattle.answering.proofs.LowestLaws.{none_at_all, first_lowest, first_none}
+use Rattle.answering.proofs.LowestLaws.{none_at_all}
 use Rattle.answering.proofs.Orders.{passed_none, refused_first, none_first, none_both, none_parts}
 use Rattle.graphs.specs.Partition.{Pair, pairs_of, ◌∈◌, Sides, Clash, Cycle}
 use Rattle.graphs.proofs.Classes.{never}
@@ -30,14 +31,14 @@ use Rattle.table.proofs.Children.{kind_node}
 use Rattle.table.proofs.PassedCheck.{passed_check}
 use Rattle.table.proofs.OneAnswer.{check_off_list}
 use Rattle.checker.specs.Check.{CheckOf}
-use Rattle.matcher.specs.declared.answer.Matched.{Matched}
+use Rattle.matcher.specs.declared.answer.Refusal.{Refusal}
 use Rattle.matcher.specs.Match.{job_of, MatchOf, Passes}
 use Rattle.matcher.specs.Steps.PassedAll.{PassedAll}
 
 -- ---- the check's answer is the match's
 
 module _ {t class work : List ℕ} (list : List ℕ) {class_after work_after : List ℕ} where
-  pub check_refused : {fault : TableFault} → CheckOf t class work (Err fault) class_after work_after → MatchOf t list class work (Matched.Table fault) class_after work_after
+  pub check_refused : {fault : TableFault} → CheckOf t class work (Err fault) class_after work_after → MatchOf t list class work (Err (Refusal.Table fault)) class_after work_after
   check_refused {fault} c =
       record {
         answered =
@@ -51,7 +52,7 @@ module _ {t class work : List ℕ} (list : List ℕ) {class_after work_after : L
       is_refused : fault_number fault ≡ 0 → ⊥
       is_refused z = omega (arith, z, (known fault).1)
 
-  pub check_passed : CheckOf t class work (Ok tt) class_after work_after → NoneOf (Fault (job_of t list class work)) check_order
+  pub check_passed : {done : Unit {0}} → CheckOf t class work (Ok done) class_after work_after → NoneOf (Fault (job_of t list class work)) check_order
   unfolding number
   check_passed c = (passed_none number (Fault (job_of t list class work)) check_order 0 0 refl refl (check_off_list t (length class) (length work) [] list 0 0 c.answered)).0
 
@@ -68,17 +69,18 @@ module _ {job : Job} where
       no_list : (p : ℕ) → Fault job LIST p → ⊥
       no_list p (list_fault h) = ⊎_elim (λ e. never (cc)) (λ e. omega arith) h
 
-  module _ {found : ℕ} (search : First (λ k. bad_sides job.table (pair_at (pairs_of job.list) k)) (length (pairs_of job.list)) found)
-      (clear : NoneOf (Fault job) (check_order ++ (LIST ∷ []))) where
-    pub side_answered : found < length (pairs_of job.list) → Answered number (Fault job) match_order 9 (found + 1)
+  module _ (clear : NoneOf (Fault job) (check_order ++ (LIST ∷ []))) where
+    pub side_answered : (k : ℕ) → Found (λ k. bad_sides job.table (pair_at (pairs_of job.list) k)) (length (pairs_of job.list)) (Some k) → Answered number (Fault job) match_order 9 (k + 1)
     unfolding number
-    side_answered h = none_first number (Fault job) (check_order ++ (LIST ∷ [])) (ADDRESS ∷ pair_rows) 9 (found + 1) clear (inl (refl, address_fault (first_lowest search h)))
+    side_answered k found =
+        none_first number (Fault job) (check_order ++ (LIST ∷ [])) (ADDRESS ∷ pair_rows) 9 (k + 1) clear
+        (inl (refl, address_fault (record { has = (found.0, found.1); none_below = λ j below bad. false≢true (sym (found.2 j below) ∙ bad.1) })))
 
-    pub passes_all : length (pairs_of job.list) ≤ found → Passes job
-    passes_all h = none_both (Fault job) (check_order ++ (LIST ∷ [])) (ADDRESS ∷ []) clear (no_side, tt)
+    pub passes_all : Found (λ k. bad_sides job.table (pair_at (pairs_of job.list) k)) (length (pairs_of job.list)) None → Passes job
+    passes_all none_found = none_both (Fault job) (check_order ++ (LIST ∷ [])) (ADDRESS ∷ []) clear (no_side, tt)
       where
         no_side : (p : ℕ) → Fault job ADDRESS p → ⊥
-        no_side p (address_fault {i} l) = first_none search h i l.has
+        no_side p (address_fault {i} l) = false≢true (sym (none_found i l.has.0) ∙ l.has.1)
 
 -- ---- what a job has that passes all checks
 

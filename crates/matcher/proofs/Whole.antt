@@ -6,20 +6,20 @@ use mathlib.Core.Bool.{Bool, true, false}
 use mathlib.Core.List.{List, [], ◌∷◌, ◌++◌}
 use Prim.Native.Nat.{ℕ, ◌+◌, ◌*◌, ◌≤◌, ◌<◌}
 use native.Mathlib.Omega.{arith}
-use Rattle.std.specs.Prelude.{Ok}
 use lib.ListN.{length, drop, replicate}
+use Rattle.std.specs.Prelude.{Option, Some, None, Ok, Err}
 use Rattle.words.specs.Limits.{most_entries}
 use Rattle.words.specs.declared.numbers.PairNumber.{PairNumber}
 use Rattle.rows.specs.Placed.{zeroed}
 use Rattle.rows.proofs.Laws.{behind_cleared, cleared_again}
-use Rattle.answering.specs.Answers.{Answered, First, NoneOf}
+use Rattle.answering.specs.Answers.{Answered, Found, NoneOf}
 use Rattle.answering.specs.Buffers.{changes_nothing, left}
 use Rattle.answering.proofs.BufferLaws.{left-zeroed}
 use Rattle.graphs.specs.Partition.{pairs_of}
 use Rattle.table.specs.Faults.{Job, pair_at, bad_sides, LIST, Fault, number, check_order, match_order}
 use Rattle.checker.specs.Check.{Checked, CheckOf}
-use Rattle.matcher.specs.declared.answer.Matched.{Matched}
-use Rattle.matcher.specs.Match.{number_of, place_of, joins_of, AcceptedWith, job_of, MatchOf, Passes}
+use Rattle.matcher.specs.declared.answer.Refusal.{Refusal}
+use Rattle.matcher.specs.Match.{Matched, number_of, place_of, joins_of, AcceptedWith, job_of, MatchOf, Passes}
 use Rattle.matcher.specs.Steps.PassedAll.{BadList}
 use Rattle.matcher.specs.Steps.FirstFailure.{Standing, TablePassed, Verdict}
 use Rattle.matcher.proofs.Verdicts.{check_passed, list_answered, list_clear, side_answered, passes_all, ready}
@@ -32,7 +32,7 @@ check_is {t} {class} {work} {class₁} {work₁} c e = subst (λ (a : Checked). 
 job_same : (t list class work class₁ work₁ : List ℕ) → length class₁ ≡ length class → length work₁ ≡ length work → job_of t list class₁ work₁ ≡ job_of t list class work
 job_same t list class work class₁ work₁ ec ew = λ i. record { table = t; list = list; class_room = ec i; work_room = ew i }
 
-module _ {t class work class₁ work₁ : List ℕ} (list : List ℕ) (check : CheckOf t class work (Ok tt) class₁ work₁) (class_long : length class₁ ≡ length class) (work_long : length work₁ ≡ length work) where
+module _ {t class work class₁ work₁ : List ℕ} {done : Unit {0}} (list : List ℕ) (check : CheckOf t class work (Ok done) class₁ work₁) (class_long : length class₁ ≡ length class) (work_long : length work₁ ≡ length work) where
   class_zero : class₁ ≡ zeroed (length t) class
   unfolding left changes_nothing
   class_zero = check.class_left
@@ -67,7 +67,7 @@ module _ {t class work class₁ work₁ : List ℕ} (list : List ℕ) (check : C
 -- ---- the list's own faults
 
 module _ {t list class work : List ℕ} (passed : TablePassed t list class work) where
-  pub list_verdict : {bad : Bool} → BadList bad list → bad ≡ true → Verdict t list class work Matched.List class work
+  pub list_verdict : {bad : Bool} → BadList bad list → bad ≡ true → Verdict t list class work (Err Refusal.List) class work
   unfolding changes_nothing
   list_verdict {bad} b e =
       record {
@@ -78,25 +78,35 @@ module _ {t list class work : List ℕ} (passed : TablePassed t list class work)
         work_same = refl;
       }
 
-  module _ {bad : Bool} (good : BadList bad list) (no_fault : bad ≡ false) {found : ℕ} (search : First (λ k. bad_sides t (pair_at (pairs_of list) k)) (length (pairs_of list)) found) where
+  module _ {bad : Bool} (good : BadList bad list) (no_fault : bad ≡ false) where
+    good_list : BadList false list
+    good_list = subst (λ (a : Bool). BadList a list) no_fault good
+
     clear_of_8 : NoneOf (Fault (job_of t list class work)) (check_order ++ (LIST ∷ []))
-    clear_of_8 = let g : BadList false list = subst (λ (a : Bool). BadList a list) no_fault good in list_clear passed.clear g.0 g.1
+    clear_of_8 = list_clear passed.clear good_list.0 good_list.1
 
     pub few_entries : length list ≤ most_entries
-    few_entries = let g : BadList false list = subst (λ (a : Bool). BadList a list) no_fault good in g.1
+    few_entries = good_list.1
 
-    pub side_verdict : found < length (pairs_of list) → (at : PairNumber) → at.0 ≡ found + 1 → Verdict t list class work (Matched.Side at) class work
-    unfolding changes_nothing
-    side_verdict h at n =
-        record {
-          answered = subst (λ (p : ℕ). Answered number (Fault (job_of t list class work)) match_order 9 p) (sym n) (side_answered search clear_of_8 h);
-          late = refl;
-          bound = λ z. absurd (omega arith);
-          refused = λ z. sym passed.class_clean;
-          work_same = refl;
-        }
+    module _ {found : Option ℕ} (search : Found (λ k. bad_sides t (pair_at (pairs_of list) k)) (length (pairs_of list)) found) where
+      found_as : {r : Option ℕ} → found ≡ r → Found (λ k. bad_sides t (pair_at (pairs_of list) k)) (length (pairs_of list)) r
+      found_as e = subst (Found (λ k. bad_sides t (pair_at (pairs_of list) k)) (length (pairs_of list))) e search
 
-    pub checks_passed : length (pairs_of list) ≤ found → Standing t list class work × Passes (job_of t list class work)
-    checks_passed h =
-        let p : Passes (job_of t list class work) = passes_all search clear_of_8 h in
-        (record { ready = ready p; clean = passed.work_clean }, p)
+      pub bad_inside : {k : ℕ} → found ≡ Some k → k < length (pairs_of list)
+      bad_inside e = (found_as e).0
+
+      pub side_verdict : {k : ℕ} → found ≡ Some k → Verdict t list class work (Err (Refusal.Side (record { 0 = k + 1 }))) class work
+      unfolding changes_nothing
+      side_verdict {k} e =
+          record {
+            answered = side_answered clear_of_8 k (found_as e);
+            late = refl;
+            bound = λ z. absurd (omega arith);
+            refused = λ z. sym passed.class_clean;
+            work_same = refl;
+          }
+
+      pub checks_passed : found ≡ None → Standing t list class work × Passes (job_of t list class work)
+      checks_passed e =
+          let p : Passes (job_of t list class work) = passes_all clear_of_8 (found_as e) in
+          (record { ready = ready p; clean = passed.work_clean }, p)

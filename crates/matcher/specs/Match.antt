@@ -1,41 +1,47 @@
 -- What a match answers, and what it leaves in the lent buffers. The sentences quoted are document 01's, "Numbers returned".
 -- Assumes nothing.
-use Rattle.std.specs.Prelude.{◌≡◌, List, ◌++◌, ℕ, ◌*◌, length, drop}
+use Rattle.std.specs.Prelude.{◌≡◌, Result, Ok, Err, List, ◌++◌, ℕ, ◌*◌, length, drop}
 use Rattle.answering.specs.Answers.{Answered, NoneOf}
+use Rattle.answering.specs.Refused.{zero_unless_refused}
 use Rattle.answering.specs.TableFaults.{number_of as fault_number, place_of as fault_place}
 use Rattle.answering.specs.Buffers.{left}
 use Rattle.graphs.specs.Partition.{pairs_of, ClassTable, joins}
 use Rattle.table.specs.Table.{graph_of}
 use Rattle.table.specs.Faults.{Job, sent, Fault, number, check_order, list_rows, match_order}
-use Rattle.matcher.specs.declared.answer.Matched.{Matched}
-use Rattle.matcher.specs.declared.answer.Matched.TheVariants.{Accepted, Table, List as Entries, Side, Clash, Cycle}
+use Rattle.matcher.specs.declared.answer.Counts.{Counts}
+use Rattle.matcher.specs.declared.answer.Refusal.{Refusal}
+use Rattle.matcher.specs.declared.answer.Refusal.TheVariants.{Table, List as Entries, Side, Clash, Cycle}
 
 -- ---- the numbers of an answer
 
+-- The list is accepted, with what is counted of it, or refused.
+abbrev pub Matched : Type 0
+Matched = Result Counts Refusal
+
+abbrev pub refusal_number : Refusal → ℕ
+refusal_number (Table fault) = fault_number fault
+refusal_number Entries = 8
+refusal_number (Side k) = 9
+refusal_number (Clash k) = 10
+refusal_number (Cycle k) = 11
+
+abbrev pub refusal_place : Refusal → ℕ
+refusal_place (Table fault) = fault_place fault
+refusal_place Entries = 0
+refusal_place (Side k) = k.0
+refusal_place (Clash k) = k.0
+refusal_place (Cycle k) = k.0
+
 abbrev pub number_of : Matched → ℕ
-number_of (Accepted counts) = 0
-number_of (Table fault) = fault_number fault
-number_of Entries = 8
-number_of (Side k) = 9
-number_of (Clash k) = 10
-number_of (Cycle k) = 11
+number_of = zero_unless_refused refusal_number
 
 abbrev pub place_of : Matched → ℕ
-place_of (Accepted counts) = 0
-place_of (Table fault) = fault_place fault
-place_of Entries = 0
-place_of (Side k) = k.0
-place_of (Clash k) = k.0
-place_of (Cycle k) = k.0
+place_of = zero_unless_refused refusal_place
 
 -- "Joins is 0 on refusal."
 abbrev pub joins_of : Matched → ℕ
-joins_of (Accepted counts) = counts.joins
-joins_of (Table fault) = 0
-joins_of Entries = 0
-joins_of (Side k) = 0
-joins_of (Clash k) = 0
-joins_of (Cycle k) = 0
+joins_of (Ok counts) = counts.joins
+joins_of (Err refusal) = 0
 
 -- ---- the match
 

@@ -1,22 +1,21 @@
 // The answers of a match, and their numbers: "Each match returns answer, place and joins."
 ghost use Rattle.std.specs.Prelude.{◌≡◌};
-ghost use Rattle.matcher.specs.Match.{number_of, place_of, joins_of};
+ghost use Rattle.matcher.specs.Match.{refusal_number, refusal_place, joins_of};
+ghost use Rattle.matcher.specs.declared.answer.Refusal.TheVariants.{Table};
 
 use answering::answer::Answer;
 use answering::fault::TableFault;
 use words::numbers::PairNumber;
 
 // What is counted of an accepted list.
-#[derive(Clone, Copy)]
+#[derive(Clone, Copy, PartialEq, Eq)]
 pub struct Counts {
     pub joins: u16,
 }
 
-// A list is accepted, or refused: for what is wrong with the table, for its own length, or at the pair
-// of a number.
-#[derive(Clone, Copy)]
-pub enum Matched {
-    Accepted(Counts),
+// A list is refused for what is wrong with the table, for its own length, or at the pair of a number.
+#[derive(Clone, Copy, PartialEq, Eq)]
+pub enum Refusal {
     Table(TableFault),
     List,
     Side(PairNumber),
@@ -24,44 +23,44 @@ pub enum Matched {
     Cycle(PairNumber),
 }
 
-// The answer, 0 to 11.
-pub fn number(answer: Matched) -> u16
-    ensures { result ≡ number_of answer }
-{
-    match answer {
-        Matched::Accepted(_) => 0,
-        Matched::Table(wrong) => wrong.number(),
-        Matched::List => 8,
-        Matched::Side(_) => 9,
-        Matched::Clash(_) => 10,
-        Matched::Cycle(_) => 11,
+impl From<TableFault> for Refusal {
+    ghost from_gives = { λ wrong refusal. refusal ≡ Table wrong };
+
+    fn from(wrong: TableFault) -> Refusal {
+        Refusal::Table(wrong)
     }
 }
 
-// The place: an address, a pair number, or 0.
-pub fn place(answer: Matched) -> u16
-    ensures { result ≡ place_of answer }
-{
-    match answer {
-        Matched::Accepted(_) => 0,
-        Matched::Table(wrong) => wrong.place(),
-        Matched::List => 0,
-        Matched::Side(k) => k.0,
-        Matched::Clash(k) => k.0,
-        Matched::Cycle(k) => k.0,
+impl Answer for Refusal {
+    ghost number_of = { refusal_number };
+
+    ghost place_of = { refusal_place };
+
+    fn number(self) -> u16 {
+        match self {
+            Refusal::Table(wrong) => wrong.number(),
+            Refusal::List => 8,
+            Refusal::Side(_) => 9,
+            Refusal::Clash(_) => 10,
+            Refusal::Cycle(_) => 11,
+        }
+    }
+
+    fn place(self) -> u16 {
+        match self {
+            Refusal::Table(wrong) => wrong.place(),
+            Refusal::List => 0,
+            Refusal::Side(k) | Refusal::Clash(k) | Refusal::Cycle(k) => k.0,
+        }
     }
 }
 
 // The joins: "Joins is 0 on refusal."
-pub fn joins(answer: Matched) -> u16
+pub fn joins(answer: Result<Counts, Refusal>) -> u16
     ensures { result ≡ joins_of answer }
 {
     match answer {
-        Matched::Accepted(counts) => counts.joins,
-        Matched::Table(_) => 0,
-        Matched::List => 0,
-        Matched::Side(_) => 0,
-        Matched::Clash(_) => 0,
-        Matched::Cycle(_) => 0,
+        Ok(counts) => counts.joins,
+        Err(_) => 0,
     }
 }

@@ -8,10 +8,9 @@ ghost use Rattle.std.specs.Prelude.{◌≤◌, length, take};
 ghost use Rattle.graphs.specs.Partition.{pairs_of, Cycle};
 ghost use Rattle.table.specs.Table.{graph_of};
 ghost use Rattle.matcher.specs.Match.{job_of, Passes};
-ghost use Rattle.matcher.specs.Steps.FirstFailure.{Standing, JoinsFirst, UntilClash, Clashless, TellsCycle, CycleAt, Verdict};
+ghost use Rattle.matcher.specs.Steps.FirstFailure.{Standing, JoinsFirst, UntilClash, Clashless, TellsCycle, CycleAt, FirstFailed, Verdict};
 
-use crate::answer::{Counts, Matched};
-use classes::joining::Joined;
+use crate::answer::{Counts, Refusal};
 use words::numbers::PairNumber;
 
 // Joins the first `count` pairs of the list, from each node its own class.
@@ -21,7 +20,7 @@ fn join_first(
     count: usize,
     class: &mut [u16],
     work: &mut [u16],
-) -> Joined
+) -> Result<(), PairNumber>
     requires { Standing table.now list.now class.old work.old × (count ≤ length (pairs_of list.now)) }
     ensures { JoinsFirst table.now list.now class.old work.old count result class.new work.new }
 {
@@ -29,20 +28,22 @@ fn join_first(
     classes::join(table, &list[..2 * count], class, work)
 }
 
-// Joins the pairs before the first clash, and returns how many they are.
-fn join_until_clash(table: &[u32], list: &[u16], class: &mut [u16], work: &mut [u16]) -> usize
+// Joins the pairs before the first clash. An error is the number of the pair that clashes.
+fn join_until_clash(
+    table: &[u32],
+    list: &[u16],
+    class: &mut [u16],
+    work: &mut [u16],
+) -> Result<(), PairNumber>
     requires { Standing table.now list.now class.old work.old }
     ensures { UntilClash table.now list.now class.old work.old result class.new work.new }
 {
-    let pairs = list.len() / 2;
-    match join_first(table, list, pairs, class, work) {
-        Joined::All => pairs,
-        Joined::ClashAt(at) => {
-            let before = at.0 as usize - 1;
-            join_first(table, list, before, class, work);
-            before
-        }
+    let joined = join_first(table, list, list.len() / 2, class, work);
+    if let Err(at) = joined {
+        let before = at.0 as usize - 1;
+        join_first(table, list, before, class, work).unwrap();
     }
+    joined
 }
 
 // Whether the first `count` pairs of the list, which have no clash, have a cycle.
@@ -50,7 +51,7 @@ fn has_cycle(table: &[u32], list: &[u16], count: usize, class: &mut [u16], work:
     requires { Standing table.now list.now class.old work.old × Clashless table.now list.now count }
     ensures { TellsCycle table.now list.now class.old work.old count result class.new work.new }
 {
-    join_first(table, list, count, class, work);
+    join_first(table, list, count, class, work).unwrap();
     cycles::reaches_itself(table, class, work)
 }
 
@@ -78,22 +79,42 @@ fn first_cycle(
     PairNumber(some as u16)
 }
 
+// The first pair with which the list so far has a clash or a cycle. Pairs behind it are not joined.
+fn first_failure(
+    table: &[u32],
+    list: &[u16],
+    class: &mut [u16],
+    work: &mut [u16],
+) -> Result<(), Refusal>
+    requires { Standing table.now list.now class.old work.old }
+    ensures { FirstFailed table.now list.now class.old work.old result class.new work.new }
+{
+    let joined = join_until_clash(table, list, class, work);
+    if cycles::reaches_itself(table, class, work) {
+        let many = match joined {
+            Ok(()) => list.len() / 2,
+            Err(at) => at.0 as usize - 1,
+        };
+        return Err(Refusal::Cycle(first_cycle(table, list, many, class, work)));
+    }
+    joined.map_err(Refusal::Clash)
+}
+
 // The answer for a job that passes all checks.
-pub(crate) fn unify(table: &[u32], list: &[u16], class: &mut [u16], work: &mut [u16]) -> Matched
+pub(crate) fn unify(
+    table: &[u32],
+    list: &[u16],
+    class: &mut [u16],
+    work: &mut [u16],
+) -> Result<Counts, Refusal>
     requires { Standing table.now list.now class.old work.old × Passes (job_of table.now list.now class.old work.old) }
     ensures { Verdict table.now list.now class.old work.old result class.new work.new }
 {
-    let n = table.len();
-    let joined = join_until_clash(table, list, class, work);
-    if cycles::reaches_itself(table, class, work) {
-        let first = first_cycle(table, list, joined, class, work);
-        rows::clear16(class, n);
-        return Matched::Cycle(first);
+    match first_failure(table, list, class, work) {
+        Ok(()) => Ok(Counts { joins: classes::count_joins(table, class) }),
+        Err(failure) => {
+            class[..table.len()].fill(0);
+            Err(failure)
+        }
     }
-    if joined < list.len() / 2 {
-        rows::clear16(class, n);
-        return Matched::Clash(PairNumber((joined + 1) as u16));
-    }
-    let joins = classes::count_joins(table, class);
-    Matched::Accepted(Counts { joins })
 }

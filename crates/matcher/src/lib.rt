@@ -16,20 +16,24 @@ mod list_faults;
 ghost use Rattle.matcher.specs.Steps.FirstFailure.{TablePassed, Verdict};
 ghost use Rattle.matcher.specs.Match.{MatchOf};
 
-use answer::Matched;
+use answer::{Counts, Refusal};
 use words::numbers::PairNumber;
 
 // The answer for a table that passed its check.
-fn match_checked(table: &[u32], list: &[u16], class: &mut [u16], work: &mut [u16]) -> Matched
+fn match_checked(
+    table: &[u32],
+    list: &[u16],
+    class: &mut [u16],
+    work: &mut [u16],
+) -> Result<Counts, Refusal>
     requires { TablePassed table.now list.now class.old work.old }
     ensures { Verdict table.now list.now class.old work.old result class.new work.new }
 {
     if list_faults::is_bad_list(list) {
-        return Matched::List;
+        return Err(Refusal::List);
     }
-    let bad = list_faults::first_bad_pair(table, list);
-    if bad < list.len() / 2 {
-        return Matched::Side(PairNumber((bad + 1) as u16));
+    if let Some(bad) = list_faults::first_bad_pair(table, list) {
+        return Err(Refusal::Side(PairNumber((bad + 1) as u16)));
     }
     first_failure::unify(table, list, class, work)
 }
@@ -39,11 +43,14 @@ fn match_checked(table: &[u32], list: &[u16], class: &mut [u16], work: &mut [u16
 // Answers 1 and 2 change nothing. If the list is accepted, the first n entries of class are the class
 // table, n being the number of words; any other answer leaves them at 0. Either way the first 4n entries
 // of work are 0, and the entries above stay as they were.
-pub fn match_list(table: &[u32], list: &[u16], class: &mut [u16], work: &mut [u16]) -> Matched
+pub fn match_list(
+    table: &[u32],
+    list: &[u16],
+    class: &mut [u16],
+    work: &mut [u16],
+) -> Result<Counts, Refusal>
     ensures { MatchOf table.now list.now class.old work.old result class.new work.new }
 {
-    match checker::check(table, class, work) {
-        Ok(()) => match_checked(table, list, class, work),
-        Err(wrong) => Matched::Table(wrong),
-    }
+    checker::check(table, class, work)?;
+    match_checked(table, list, class, work)
 }

@@ -1,11 +1,13 @@
 -- What the joins of a list's pairs, one after the other, promise. Assumes nothing.
-use Rattle.std.specs.Prelude.{Bool, List, [], ◌∷◌, ◌++◌, ℕ, ◌+◌, ◌≤◌, ◌<◌, length, take}
+use Rattle.std.specs.Prelude.{◌≡◌, Result, Ok, Err, List, [], ◌∷◌, ◌++◌, ℕ, ◌+◌, ◌≤◌, ◌<◌, length, take}
+use Rattle.words.specs.declared.numbers.PairNumber.{PairNumber}
 use Rattle.graphs.specs.Partition.{Pair, pairs_of, Sides, Clash}
 use Rattle.table.specs.Table.{graph_of}
+use Rattle.classes.specs.declared.meet.Clash.{Clash as ClashMet}
 use Rattle.classes.specs.Steps.Meeting.{State, Config, Within, Complete, RestKept, Settled}
 
 -- What the join of one pair does, with no pair waiting before and after.
-abbrev pub JoinsPair : List ℕ → List ℕ → List ℕ → ℕ → ℕ → List ℕ → List ℕ → Bool → Type 0
+abbrev pub JoinsPair : List ℕ → List ℕ → List ℕ → ℕ → ℕ → List ℕ → List ℕ → Result (Unit {0}) ClashMet → Type 0
 JoinsPair t row work left right row_after work_after answer =
     (owed : List Pair) → Settled t (record { row = row; work = work; waiting = 0; owed = record { left = left; right = right } ∷ owed }) row_after work_after owed answer
 
@@ -32,8 +34,7 @@ pub record ClashesAt (t list row₀ work₀ row work : List ℕ) (i : ℕ) : Typ
   pub clash : (earlier : List Pair) → Holding t earlier row₀ work₀ → Clash (graph_of t) (earlier ++ take (i + 1) (pairs_of list))
   pub none_before : (earlier : List Pair) → Sides (graph_of t) earlier → Holding t earlier row₀ work₀ → Clash (graph_of t) (earlier ++ take i (pairs_of list)) → ⊥
 
--- What comes of the pairs of a list: i is the place of the first clash, or their number.
-pub record EachJoined (t list row₀ work₀ row work : List ℕ) (i : ℕ) : Type 0 where
-  pub inside : i ≤ length (pairs_of list)
-  pub clashes : i < length (pairs_of list) → ClashesAt t list row₀ work₀ row work i
-  pub all : length (pairs_of list) ≤ i → JoinedBefore t list row₀ work₀ row work i
+-- What comes of the pairs of a list: all are joined, or the pair of a number, from 1, is the first that clashes.
+pub data EachJoined (t list row₀ work₀ row work : List ℕ) : Result (Unit {0}) PairNumber → Type 0 where
+  each_joined : {done : Unit {0}} → JoinedBefore t list row₀ work₀ row work (length (pairs_of list)) → EachJoined t list row₀ work₀ row work (Ok done)
+  one_clashes : {i : ℕ} {k : PairNumber} → k.0 ≡ i + 1 → ClashesAt t list row₀ work₀ row work i → EachJoined t list row₀ work₀ row work (Err k)

@@ -1,11 +1,11 @@
 -- What the steps of a join promise each other. A state is the class row as a forest, and the pairs of functions that wait in
 -- the work row for their children to meet. Assumes nothing.
-use Rattle.std.specs.Prelude.{◌≡◌, Bool, true, false, List, [], ◌∷◌, ◌++◌, ℕ, zero, suc, ◌+◌, ◌*◌, ◌≤◌, ◌<◌, length, get_or, drop}
+use Rattle.std.specs.Prelude.{◌≡◌, Result, Ok, Err, List, [], ◌∷◌, ◌++◌, ℕ, zero, suc, ◌+◌, ◌*◌, ◌≤◌, ◌<◌, length, get_or, drop}
 use Rattle.graphs.specs.Graph.{nothing, symbol, Node}
 use Rattle.graphs.specs.Partition.{Pair, ◌∈◌, Same, Clash, entry, classes, key}
 use Rattle.table.specs.Table.{TableSymbols, graph_of, degree, child_of}
 use Rattle.classes.specs.Steps.Forest.{Forest}
-use Rattle.classes.specs.declared.meet.Turn.{Turn}
+use Rattle.classes.specs.declared.meet.Clash.{Clash as ClashMet}
 
 -- the two functions of a waiting pair
 abbrev pub waiting_left : List ℕ → ℕ → ℕ
@@ -87,9 +87,9 @@ pub record Stopped (t : List ℕ) (before : Config) (row work : List ℕ) : Type
   pub kept : RestKept t before (record { row = row; work = work; waiting = 0; owed = [] })
 
 -- What a step does: it went on, with `waiting` pairs that wait and `owed` still to meet, or it met a clash.
-pub data Turned (t : List ℕ) (before : Config) (row work : List ℕ) (owed : List Pair) : Turn → Type 0 where
-  went_on : {waiting : ℕ} → Moved t before (record { row = row; work = work; waiting = waiting; owed = owed }) → Turned t before row work owed (Turn.Waiting waiting)
-  clashed : Stopped t before row work → Turned t before row work owed Turn.Clash
+pub data Turned (t : List ℕ) (before : Config) (row work : List ℕ) (owed : List Pair) : Result ℕ ClashMet → Type 0 where
+  went_on : {waiting : ℕ} → Moved t before (record { row = row; work = work; waiting = waiting; owed = owed }) → Turned t before row work owed (Ok waiting)
+  clashed : {met : ClashMet} → Stopped t before row work → Turned t before row work owed (Err met)
 
 -- the children of f and g at k places from i on, as pairs
 unfoldable pub child_pairs : List ℕ → ℕ → ℕ → ℕ → ℕ → List Pair
@@ -97,21 +97,21 @@ child_pairs t f g i zero = []
 child_pairs t f g i (suc k) = record { left = child_of t f i; right = child_of t g i } ∷ child_pairs t f g (suc i) k
 
 -- What a meeting of two nodes does, whatever other pairs are still to meet.
-abbrev pub Meets : List ℕ → List ℕ → List ℕ → ℕ → ℕ → ℕ → List ℕ → List ℕ → Turn → Type 0
+abbrev pub Meets : List ℕ → List ℕ → List ℕ → ℕ → ℕ → ℕ → List ℕ → List ℕ → Result ℕ ClashMet → Type 0
 Meets t row work waiting a b row_after work_after turn =
     (owed : List Pair) → Turned t (record { row = row; work = work; waiting = waiting; owed = record { left = a; right = b } ∷ owed }) row_after work_after owed turn
 
 -- What the meeting of the children of two functions does.
-abbrev pub GoesDown : List ℕ → List ℕ → List ℕ → ℕ → ℕ → ℕ → List ℕ → List ℕ → Turn → Type 0
+abbrev pub GoesDown : List ℕ → List ℕ → List ℕ → ℕ → ℕ → ℕ → List ℕ → List ℕ → Result ℕ ClashMet → Type 0
 GoesDown t row work waiting f g row_after work_after turn =
     (owed : List Pair) → Turned t (record { row = row; work = work; waiting = waiting; owed = child_pairs t f g 0 (degree t f) ++ owed }) row_after work_after owed turn
 
--- What is done until no pair waits: true says that all is joined, false that there was a clash.
-pub data Settled (t : List ℕ) (before : Config) (row work : List ℕ) (owed : List Pair) : Bool → Type 0 where
-  all_joined : Moved t before (record { row = row; work = work; waiting = 0; owed = owed }) → Settled t before row work owed true
-  clash_met : Stopped t before row work → Settled t before row work owed false
+-- What is done until no pair waits: all is joined, or there was a clash.
+pub data Settled (t : List ℕ) (before : Config) (row work : List ℕ) (owed : List Pair) : Result (Unit {0}) ClashMet → Type 0 where
+  all_joined : {done : Unit {0}} → Moved t before (record { row = row; work = work; waiting = 0; owed = owed }) → Settled t before row work owed (Ok done)
+  clash_met : {met : ClashMet} → Stopped t before row work → Settled t before row work owed (Err met)
 
-abbrev pub Settles : List ℕ → List ℕ → List ℕ → ℕ → List ℕ → List ℕ → Bool → Type 0
+abbrev pub Settles : List ℕ → List ℕ → List ℕ → ℕ → List ℕ → List ℕ → Result (Unit {0}) ClashMet → Type 0
 Settles t row work waiting row_after work_after answer =
     (owed : List Pair) → Settled t (record { row = row; work = work; waiting = waiting; owed = owed }) row_after work_after owed answer
 

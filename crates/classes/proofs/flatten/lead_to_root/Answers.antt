@@ -14,8 +14,8 @@ up-higher-requires c = omega (arith, c.requires.0.inside _ c.requires.1, c.requi
 pub bounds-class-x : goal.bounds-class-x
 bounds-class-x c = led_room c.requires.0 c.requires.1 c.root-name.ensures
 
-pub returns-then-higher-above : goal.returns-then-higher-above
-returns-then-higher-above c = led_now c.requires.0 c.requires.1 c.root-name.ensures
+pub returns-then-ne : goal.returns-then-ne
+returns-then-ne c = led_now c.requires.0 c.requires.1 c.root-name.ensures
 
-pub returns-else-higher-above : goal.returns-else-higher-above
-returns-else-higher-above c = led_already c.up-above.ensures c.up-higher.ensures (search rules)
+pub returns-else-ne : goal.returns-else-ne
+returns-else-ne c = led_already c.up-above.ensures c.up-higher.ensures (search rules)

@@ -3,7 +3,8 @@
 use mathlib.Core.Path.{refl}
 use native.Mathlib.Omega.{arith}
 use Rattle.table.proofs.Pairs.{length-pairs_of, length-pairs_of_over}
-use Rattle.classes.proofs.OneByOne.{begins, joins_on, clashes_here, clash_found, all_met, side_nodes}
+use Rattle.classes.specs.Steps.Lists.{one_clashes}
+use Rattle.classes.proofs.OneByOne.{begins, joins_on, clashes_here, all_met, side_nodes}
 use Rattle.classes.proofs.joining.join_each.Goals as goal
 
 pub loop-i-init : goal.loop-i-init
@@ -13,11 +14,11 @@ pub join_pair-requires : goal.join_pair-requires
 join_pair-requires c = let n : _ = side_nodes c.args.table.now c.args.list.now c.requires.2 c.loop-i.i (omega (arith, length-pairs_of_over c.args.list.now)) in
     (c.requires.0, c.loop-i.invariant.state, n.0, n.1)
 
-pub returns-then-not-join_pair : goal.returns-then-not-join_pair
-returns-then-not-join_pair c = clash_found (clashes_here c.loop-i.invariant (omega (arith, length-pairs_of_over c.args.list.now)) refl refl c.join_pair.ensures c.requires.0 c.requires.2 c.if-not-join_pair.true)
+pub returns-then-is_err : goal.returns-then-is_err
+returns-then-is_err c = one_clashes refl (clashes_here c.loop-i.invariant (omega (arith, length-pairs_of_over c.args.list.now)) refl refl c.join_pair.ensures c.requires.0 c.requires.2 (cc))
 
 pub loop-i-preserved : goal.loop-i-preserved
-loop-i-preserved c = joins_on c.loop-i.invariant (omega (arith, length-pairs_of_over c.args.list.now)) refl refl c.join_pair.ensures c.if-not-join_pair.false
+loop-i-preserved c = joins_on c.loop-i.invariant (omega (arith, length-pairs_of_over c.args.list.now)) refl refl c.join_pair.ensures (cc)
 
 pub returns : goal.returns
-returns c = all_met c.loop-i.invariant (omega (arith, length-pairs_of c.args.list.now))
+returns c = all_met c.loop-i.invariant (omega (arith, c.loop-i.invariant.inside, length-pairs_of c.args.list.now))

@@ -15,14 +15,14 @@ meet_ordered-requires c = (
   c.requires.0,
   c.requires.1,
   elim c.if-key.branch [
-    | then-key w ↦ ordered_as w.name-is w.later-is (left_first c.requires.0 c.requires.2 c.key.ensures c.key-2.ensures w.if-key.true)
-    | else-key w ↦ ordered_as w.name-is w.later-is (right_first c.requires.0 c.requires.2 c.key.ensures c.key-2.ensures w.if-key.false)
+    | then-key w ↦ ordered_as (assumption) (left_first c.requires.0 c.requires.2 c.key.ensures c.key-2.ensures w.if-key.true)
+    | else-key w ↦ ordered_as (assumption) (right_first c.requires.0 c.requires.2 c.key.ensures c.key-2.ensures w.if-key.false)
   ],
 )
 
 pub returns : goal.returns
 returns c =
     elim c.if-key.branch [
-      | then-key w ↦ meets_as w.name-is w.later-is c.meet_ordered.ensures
-      | else-key w ↦ meets_turned c.requires.1 (meets_as w.name-is w.later-is c.meet_ordered.ensures)
+      | then-key w ↦ meets_as (assumption) c.meet_ordered.ensures
+      | else-key w ↦ meets_turned c.requires.1 (meets_as (assumption) c.meet_ordered.ensures)
     ]

@@ -1,5 +1,5 @@
 -- `classes::own::apart` meets its contract. The loop's invariant is `Built`: the row is made from the front. Assumes nothing.
-use mathlib.Core.Path.{sym, ap}
+use mathlib.Core.Path.{refl, sym, ap, ◌∙◌}
 use mathlib.Core.Bool.{Bool, cond}
 use native.Mathlib.Omega.{arith}
 use Rattle.rows.proofs.Laws.{built_none, built_all}
@@ -16,14 +16,11 @@ overflow_cast-class c = omega (arith, c.requires.1)
 pub bounds-class-x : goal.bounds-class-x
 bounds-class-x c = omega (arith, c.requires.0)
 
-pub bounds-class-x-else-is_node_word : goal.bounds-class-x-else-is_node_word
-bounds-class-x-else-is_node_word c = omega (arith, c.requires.0)
-
 pub loop-x-preserved : goal.loop-x-preserved
 loop-x-preserved c =
     elim c.if-is_node_word.branch [
-      | then-is_node_word w ↦ apart_more c.args.table.now c.loop-x.invariant c.loop-x-test.true c.is_node_word.ensures (sym (ap (λ (b : Bool). cond b c.loop-x.x 0) w.if-is_node_word.true)) w.class-is
-      | else-is_node_word w ↦ apart_more c.args.table.now c.loop-x.invariant c.loop-x-test.true c.is_node_word.ensures (sym (ap (λ (b : Bool). cond b c.loop-x.x 0) w.if-is_node_word.false)) w.class-is
+      | then-is_node_word w ↦ apart_more c.args.table.now c.loop-x.invariant c.loop-x-test.true c.is_node_word.ensures (w.class-is ∙ sym (ap (λ (b : Bool). cond b c.loop-x.x 0) w.if-is_node_word.true)) refl
+      | else-is_node_word w ↦ apart_more c.args.table.now c.loop-x.invariant c.loop-x-test.true c.is_node_word.ensures (w.class-is ∙ sym (ap (λ (b : Bool). cond b c.loop-x.x 0) w.if-is_node_word.false)) refl
     ]
 
 pub returns : goal.returns

@@ -1,5 +1,4 @@
 -- `classes::own::apart` meets its contract. The loop's invariant is `Built`: the row is made from the front. Assumes nothing.
-use Prim.Native.Nat.{◌-◌}
 use lib.ListN.{length}
 use Rattle.rows.proofs.Laws.{Built}
 use Rattle.graphs.specs.Partition.{apart}
@@ -8,6 +7,3 @@ use Rattle.classes.proofs.own.apart.Given as goal
 
 abbrev pub invariant-loop-x : goal.invariant-loop-x
 invariant-loop-x l = Built (apart (graph_of l.table)) l.initial.class (length l.table) l.x l.class
-
-abbrev pub decreases-loop-x : goal.decreases-loop-x
-decreases-loop-x l = length l.table - l.x
