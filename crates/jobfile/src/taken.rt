@@ -7,30 +7,16 @@ ghost use Rattle.jobfile.specs.File.{body_in};
 ghost use Rattle.jobfile.specs.Jobs.{entry_of, JobThere, RowsForJob, JobTaken};
 
 use crate::contents;
+use rows::LittleEndian;
 
-// Copies the words at the front of body over the front of into: as many as there are, and as have room. The entries after
+// Copies the numbers at the front of bytes over the front of into: as many as there are, and as have room. The entries after
 // them stay.
-fn take_words(body: &[u8], into: &mut [u32])
-    ensures { into.new ≡ taken 4 body.now into.old }
+fn take<T: LittleEndian>(bytes: &[u8], into: &mut [T])
+    ensures { into.new ≡ taken T.of_number T.WIDTH bytes.now into.old }
 {
-    let count = rows::least(into.len(), body.len() / 4);
-    let mut i = 0;
-    while i < count {
-        into[i] = rows::read32(body, 4 * i);
-        i += 1;
-    }
-}
-
-// The same of addresses: left, right, left, right. The pairs stand after the words, so it is lent the part of the body from
-// there on.
-fn take_pairs(pairs: &[u8], into: &mut [u16])
-    ensures { into.new ≡ taken 2 pairs.now into.old }
-{
-    let count = rows::least(into.len(), pairs.len() / 2);
-    let mut i = 0;
-    while i < count {
-        into[i] = rows::read16(pairs, 2 * i);
-        i += 1;
+    let count = into.len().min(bytes.len() / T::WIDTH);
+    for i in 0..count {
+        into[i] = rows::read(bytes, T::WIDTH * i);
     }
 }
 
@@ -51,6 +37,6 @@ pub fn take_job(file: &[u8], job: usize, table: &mut [u32], list: &mut [u16])
 {
     let body = body(file, job);
     let start = 4 * table.len();
-    take_words(body, table);
-    take_pairs(&body[start..], list);
+    take(body, table);
+    take(&body[start..], list);
 }
