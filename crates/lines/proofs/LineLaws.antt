@@ -1,5 +1,5 @@
 -- Lines. In order:
---     one part after another      store_digit, store_digits, field-placed, line_first, line_more: what stores and copies leave
+--     one part after another      store_digit, store_digits, field-placed, line_word, line_first, line_more: what stores and copies leave
 --     a front lent on             line_counts
 --     read back                   job_line_read, variable_line_read, file_line_read: a line tells its numbers; decimal_tells
 --     what was put                line_written, copied_front, text_written
@@ -59,6 +59,10 @@ field-placed x after at next row before room e built = (
   omega (arith, length-append (decimal x) (after ∷ [])),
   ap₂ (λ (l : List ℕ) (i : ℕ). set l i after) built e ∙ store_next at (decimal x) row after room,
 )
+
+-- a word copied to the front
+pub line_word : (word row copied : List ℕ) → copied ≡ word → LineIn word row (length word) (copied ++ drop (length word) row)
+line_word word row copied same = record { long = refl; there = ap (λ (l : List ℕ). l ++ drop (length word) row) same }
 
 pub line_first : {next row after : List ℕ} {r : ℕ} → r ≡ 0 + length next → after ≡ placed 0 next row → LineIn next row r after
 unfolding placed
