@@ -20,8 +20,7 @@ use Rattle.answering.proofs.BufferLaws.{later_rows, left-zeroed}
 use Rattle.graphs.specs.Partition.{pairs_of, ClassTable, joins}
 use Rattle.table.specs.Table.{graph_of}
 use Rattle.table.specs.Faults.{sent, Row as MatchRow, SIZE, ROOM, Fault, size_fault, room_fault, list_fault, number as match_number, size_rows, table_rows, list_rows, pair_rows, check_order, match_order}
-use Rattle.matcher.specs.Match.{number_of, place_of, joins_of, MatchOf}
-use Rattle.matcher.specs.declared.answer.Matched.{Matched}
+use Rattle.matcher.specs.Match.{Matched, number_of, place_of, joins_of, MatchOf}
 use Rattle.matcher.proofs.OneMatch.{refused_joins}
 use Rattle.jobfile.specs.File.{pairs_in, body_in}
 use Rattle.jobfile.proofs.NumberLaws.{length-row_in}

@@ -5,7 +5,6 @@
 mod choice;
 mod found;
 mod job;
-pub mod matched;
 mod packed;
 mod report;
 mod sizes;

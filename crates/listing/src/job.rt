@@ -10,20 +10,21 @@ ghost use Rattle.listing.specs.Steps.Putting.{job_room, Tellable, answer_line, A
 
 use crate::variables;
 use lines::LINE_ROOM;
+use answering::answer::Answer;
 use matcher::answer;
-use matcher::answer::Matched;
+use matcher::answer::{Counts, Refusal};
 use words::limits::{MOST_BYTES, MOST_WORDS};
 
 // Puts the line of a job over the front of row, and returns its length.
-fn put_job(job: u16, answer: Matched, row: &mut [u8]) -> usize
+fn put_job(job: u16, answer: Result<Counts, Refusal>, row: &mut [u8]) -> usize
     requires { job_room ≤ length row.old }
     ensures { LineIn (answer_line job answer) row.old result row.new × (result ≤ line_room) }
 {
     let mut line = [0u8; LINE_ROOM];
     let size = lines::job_line(
         job,
-        answer::number(answer),
-        answer::place(answer),
+        answer.number(),
+        answer.place(),
         answer::joins(answer),
         &mut line,
     );
@@ -32,12 +33,12 @@ fn put_job(job: u16, answer: Matched, row: &mut [u8]) -> usize
 }
 
 // The same, and after an accepted job the lines of its variables.
-fn put_answer(job: u16, answer: Matched, table: &[u32], class: &[u16], row: &mut [u8]) -> usize
+fn put_answer(job: u16, answer: Result<Counts, Refusal>, table: &[u32], class: &[u16], row: &mut [u8]) -> usize
     requires { (number_of answer ≡ 0 → Tellable table.now class.now) × (job_room ≤ length row.old) }
     ensures { AnswerTold job answer table.now class.now row.old result row.new × (result ≤ job_room) }
 {
     let size = put_job(job, answer, row);
-    if answer::number(answer) == 0 {
+    if answer.number() == 0 {
         return variables::put_variables(table, class, row, size);
     }
     size

@@ -22,7 +22,7 @@ use Rattle.table.proofs.Pairs.{pairs_of-take}
 use Rattle.classes.specs.Joining.{Joinable, ByOutcome, JoinOf}
 use Rattle.classes.proofs.OwnClasses.{apart_front, apart_long}
 use Rattle.classes.proofs.OneByOne.{first_in_whole}
-use Rattle.matcher.specs.Steps.FirstFailure.{Standing, OnlyClassFront, Partitioned, FirstJoined, all_joined, clash_at, JoinsFirst, unclashed, ClashesAt, UntilClash}
+use Rattle.matcher.specs.Steps.FirstFailure.{Standing, OnlyClassFront, Partitioned, FirstJoined, all_joined, clash_at, JoinsFirst, ClashesAt, UntilClash}
 
 -- ---- rows after a step
 
@@ -141,15 +141,12 @@ pub record ClashPlace (t list : List ℕ) (at : PairNumber) (k : ℕ) : Type 0 w
   pub clash : Clash (graph_of t) (take (place + 1) (pairs_of list))
   pub none_before : Clash (graph_of t) (take place (pairs_of list)) → ⊥
 
-pub clash_place : {t list class_after : List ℕ} {k : ℕ} {answer : Result (Unit {0}) PairNumber} {at : PairNumber} → FirstJoined t list class_after k answer → answer ≡ Err at → ClashPlace t list at k
-clash_place (all_joined p) e = never (cc)
-clash_place {at = at} (clash_at {at = b} i f l c n) e =
-    record { place = i; numbers = ap (λ (p : PairNumber). p.0) (let q : at ≡ b = cc in q) ∙ f; inside = l; clash = c; none_before = n }
+pub clash_place : {t list class_after : List ℕ} {k : ℕ} {at : PairNumber} → FirstJoined t list class_after k (Err at) → ClashPlace t list at k
+clash_place (clash_at i e h clash before) = record { place = i; numbers = e; inside = h; clash = clash; none_before = before }
 
-module _ {t list class work class_mid work_mid : List ℕ} {at : PairNumber} {k : ℕ} {answer : Result (Unit {0}) PairNumber} (few : k ≤ length (pairs_of list))
-    (j : JoinsFirst t list class work k answer class_mid work_mid) (is : answer ≡ Err at) where
+module _ {t list class work class_mid work_mid : List ℕ} {at : PairNumber} {k : ℕ} (few : k ≤ length (pairs_of list)) (j : JoinsFirst t list class work k (Err at) class_mid work_mid) where
   abbrev clash_there : ClashPlace t list at k
-  clash_there = clash_place j.joined is
+  clash_there = clash_place j.joined
 
   -- the pairs before the clash
   pub before_clash : (1 ≤ at.0) × (at.0 - 1 ≤ length (pairs_of list)) × (Clash (graph_of t) (take (at.0 - 1) (pairs_of list)) → ⊥)
@@ -161,10 +158,9 @@ module _ {t list class work class_mid work_mid : List ℕ} {at : PairNumber} {k 
 
   -- they are joined afresh
   pub until_clash : {class_after work_after : List ℕ} {again : Result (Unit {0}) PairNumber} → JoinsFirst t list class_mid work_mid (at.0 - 1) again class_after work_after
-      → UntilClash t list class work answer class_after work_after
-  until_clash {class_after} {work_after} l =
-      subst (λ (a : Result (Unit {0}) PairNumber). UntilClash t list class work a class_after work_after) (sym is)
-      (record {
+      → UntilClash t list class work (Err at) class_after work_after
+  until_clash l =
+      record {
         lent = lent_join j.lent l.lent;
         inside = before_clash.1;
         partitioned = all_partitioned l.joined before_clash.2;
@@ -176,4 +172,4 @@ module _ {t list class work class_mid work_mid : List ℕ} {at : PairNumber} {k 
               within = omega (arith, clash_there.numbers, clash_there.inside);
               clash = subst (λ (i : ℕ). Clash (graph_of t) (take i (pairs_of list))) (sym clash_there.numbers) clash_there.clash;
             });
-      })
+      }

@@ -1,16 +1,17 @@
 -- The first cycle: what one search tells, and the search by halving; and the verdicts 0, 10 and 11.
 --
--- In order: a search of the row (`row_tells`, `tells_cycle`); halves (`Halved`); the first failure (`cycle_fails`, `clash_fails`,
--- `nothing_fails`); the verdicts (`refused_verdict`, `accepted_verdict`). Assumes nothing.
+-- In order: a search of the row (`row_tells`, `tells_cycle`); halves (`Halved`); the first failure (`cycle_fails`,
+-- `joined_fails`); the verdicts (`refused_verdict`, `accepted_verdict`). Assumes nothing.
 use mathlib.Core.Path.{◌≡◌, refl, sym, ap, ◌∙◌, subst}
 use mathlib.Core.Bool.{Bool, true, false, ◌&&◌}
 use mathlib.Core.List.{List, ◌++◌}
-use Prim.Native.Nat.{ℕ, zero, suc, ◌+◌, ◌-◌, ◌*◌, ◌≤◌, ◌<◌}
+use Prim.Native.Nat.{ℕ, zero, suc, ◌+◌, ◌-◌, ◌*◌, ◌/◌, ◌≤◌, ◌<◌}
 use native.Mathlib.Omega.{arith}
 use lib.Dec.{eqb}
-use lib.ListN.{length, take, drop, replicate, take-append-drop}
+use lib.ListN.{length, take, replicate, take-append-drop}
 use lib.Seq.{take-length, get_or-take}
-use Rattle.std.specs.Prelude.{Result, Ok, Err}
+use Rattle.std.specs.Prelude.{Result, Ok, Err, MatchResult, IsErrAnd}
+use Rattle.std.proofs.lemmas.Result.{err_from_is_err_and}
 use Rattle.words.specs.declared.numbers.PairNumber.{PairNumber}
 use Rattle.rows.specs.Placed.{zeroed}
 use Rattle.answering.specs.Answers.{Answered}
@@ -28,6 +29,7 @@ use Rattle.matcher.specs.declared.answer.Refusal.{Refusal}
 use Rattle.matcher.specs.Match.{job_of, Passes}
 use Rattle.matcher.specs.Steps.PassedAll.{Cycles}
 use Rattle.matcher.specs.Steps.FirstFailure.{Standing, OnlyClassFront, Partitioned, JoinsFirst, UntilClash, Clashless, TellsCycle, CycleAt, Failed, none_fails, clash_first, cycle_first, FirstFailed, unclashed, ClashesAt, Verdict}
+use Rattle.matcher.proofs.ListLaws.{half_entries}
 use Rattle.matcher.proofs.CycleSearch.{class_searchable, search_tells}
 use Rattle.matcher.proofs.Verdicts.{accepted_answered, clash_answered, cycle_answered}
 use Rattle.matcher.proofs.FirstPairs.{lent_join, lent_none, standing_after, first_sides, all_partitioned}
@@ -117,43 +119,49 @@ halved_end {t} {list} {few = few} {many = many} h e =
 
 -- ---- the first failure
 
-module _ {t list class work class_mid work_mid work_search : List ℕ} {joined : Result (Unit {0}) PairNumber} {found : Bool} (s : Standing t list class work) (until : UntilClash t list class work joined class_mid work_mid)
-    (searched : Searched t class_mid work_mid found work_search) where
-  both_lent : OnlyClassFront t class work class_mid work_search
-  both_lent = lent_join until.lent (row_lent (standing_after s until.lent) until.inside until.partitioned searched)
+-- how many pairs are joined
+pub unclashed_all : (list : List ℕ) {joined : Result (Unit {0}) PairNumber} {done : Unit {0}} {many : ℕ} → joined ≡ Ok done → many ≡ length list / 2 → many ≡ unclashed list joined
+unclashed_all list e f = f ∙ half_entries list ∙ sym (ap (unclashed list) e)
 
-  tells : Cycles found (graph_of t) (take (unclashed list joined) (pairs_of list))
-  tells = row_tells (standing_after s until.lent) until.inside until.partitioned searched
+pub unclashed_before : (list : List ℕ) {joined : Result (Unit {0}) PairNumber} {at : PairNumber} {many : ℕ} → joined ≡ Err at → many ≡ at.0 - 1 → many ≡ unclashed list joined
+unclashed_before list e f = f ∙ sym (ap (unclashed list) e)
 
-  -- what the search for the first cycle asks
-  pub cycle_found : found ≡ true → {many : ℕ} → many ≡ unclashed list joined → Standing t list class_mid work_search × Clashless t list many × Cycle (graph_of t) (take many (pairs_of list))
-  cycle_found e same = (
-    standing_after s both_lent,
-    subst (Clashless t list) (sym same) (record { inside = until.inside; no_clash = until.partitioned.no_clash }),
-    subst (λ (k : ℕ). Cycle (graph_of t) (take k (pairs_of list))) (sym same) (subst (λ (b : Bool). Cycles b (graph_of t) (take (unclashed list joined) (pairs_of list))) e tells),
-  )
+module _ {t list class work class_mid work_mid : List ℕ} {joined : Result (Unit {0}) PairNumber} (s : Standing t list class work) (until : UntilClash t list class work joined class_mid work_mid) where
+  joined_clashless : Clashless t list (unclashed list joined)
+  joined_clashless = record { inside = until.inside; no_clash = until.partitioned.no_clash }
+
+  both_lent : {work_search : List ℕ} {found : Bool} → Searched t class_mid work_mid found work_search → OnlyClassFront t class work class_mid work_search
+  both_lent searched = lent_join until.lent (row_lent (standing_after s until.lent) until.inside until.partitioned searched)
+
+  tells : {work_search : List ℕ} {found : Bool} → Searched t class_mid work_mid found work_search → Cycles found (graph_of t) (take (unclashed list joined) (pairs_of list))
+  tells searched = row_tells (standing_after s until.lent) until.inside until.partitioned searched
 
   -- the pairs that are joined have a cycle
-  pub cycle_fails : {many : ℕ} → many ≡ unclashed list joined → {class_after work_after : List ℕ} {at : PairNumber} → CycleAt t list class_mid work_search many at.0 class_after work_after
-      → FirstFailed t list class work (Err (Refusal.Cycle at)) class_after work_after
-  cycle_fails {many} same {class_after} {work_after} {at} c =
-      let joined_clashless : Clashless t list many = subst (Clashless t list) (sym same) (record { inside = until.inside; no_clash = until.partitioned.no_clash }) in
-      let first : FirstCycle (graph_of t) (pairs_of list) c.place =
-      record {
-        within = omega (arith, joined_clashless.inside, c.within, c.numbers);
-        cycle = c.cycle;
-        no_clash = (fewer_clashless (c.place + 1) joined_clashless (omega (arith, c.within, c.numbers))).no_clash;
-        no_clash_before = (fewer_clashless c.place joined_clashless (omega (arith, c.within, c.numbers))).no_clash;
-        no_cycle_before = c.none_before;
-      } in
-      record { lent = lent_join both_lent c.lent; failed = cycle_first c.place c.numbers first }
+  module _ {work_search : List ℕ} (searched : Searched t class_mid work_mid true work_search) {many : ℕ} (same : many ≡ unclashed list joined) where
+    -- what the search for the first one asks
+    pub cycle_found : Standing t list class_mid work_search × Clashless t list many × Cycle (graph_of t) (take many (pairs_of list))
+    cycle_found = (
+      standing_after s (both_lent searched),
+      subst (Clashless t list) (sym same) joined_clashless,
+      subst (λ (k : ℕ). Cycle (graph_of t) (take k (pairs_of list))) (sym same) (tells searched),
+    )
+
+    pub cycle_fails : {class_after work_after : List ℕ} {at : PairNumber} → CycleAt t list class_mid work_search many at.0 class_after work_after
+        → FirstFailed t list class work (Err (Refusal.Cycle at)) class_after work_after
+    cycle_fails c =
+        let first : FirstCycle (graph_of t) (pairs_of list) c.place =
+        record {
+          within = omega (arith, until.inside, c.within, c.numbers, same);
+          cycle = c.cycle;
+          no_clash = (fewer_clashless (c.place + 1) joined_clashless (omega (arith, c.within, c.numbers, same))).no_clash;
+          no_clash_before = (fewer_clashless c.place joined_clashless (omega (arith, c.within, c.numbers, same))).no_clash;
+          no_cycle_before = c.none_before;
+        } in
+        record { lent = lent_join (both_lent searched) c.lent; failed = cycle_first c.place c.numbers first }
 
   -- they have none, so a clash is the first failure, or nothing fails
-  module _ (none_there : found ≡ false) where
-    no_cycle : Cycle (graph_of t) (take (unclashed list joined) (pairs_of list)) → ⊥
-    no_cycle = subst (λ (b : Bool). Cycles b (graph_of t) (take (unclashed list joined) (pairs_of list))) none_there tells
-
-    pub clash_fails : {at : PairNumber} → joined ≡ Err at → FirstFailed t list class work (Err (Refusal.Clash at)) class_mid work_search
+  module _ {work_search : List ℕ} (searched : Searched t class_mid work_mid false work_search) where
+    clash_fails : {at : PairNumber} → joined ≡ Err at → FirstFailed t list class work (Err (Refusal.Clash at)) class_mid work_search
     clash_fails {at} e =
         let next : ClashesAt t list at = until.next at e in
         let count : unclashed list joined ≡ at.0 - 1 = ap (unclashed list) e in
@@ -162,18 +170,28 @@ module _ {t list class work class_mid work_mid work_search : List ℕ} {joined :
           within = omega (arith, next.from_1, next.within);
           clash = subst (λ (k : ℕ). Clash (graph_of t) (take k (pairs_of list))) (let q : at.0 ≡ at.0 - 1 + 1 = omega (arith, next.from_1) in q) next.clash;
           no_clash_before = subst (λ (k : ℕ). Clash (graph_of t) (take k (pairs_of list)) → ⊥) count until.partitioned.no_clash;
-          no_cycle_before = subst (λ (k : ℕ). Cycle (graph_of t) (take k (pairs_of list)) → ⊥) count no_cycle;
+          no_cycle_before = subst (λ (k : ℕ). Cycle (graph_of t) (take k (pairs_of list)) → ⊥) count (tells searched);
         } in
-        record { lent = both_lent; failed = clash_first (at.0 - 1) (omega (arith, next.from_1)) first }
+        record { lent = both_lent searched; failed = clash_first (at.0 - 1) (omega (arith, next.from_1)) first }
 
-    pub nothing_fails : {done : Unit {0}} → joined ≡ Ok done → FirstFailed t list class work (Ok done) class_mid work_search
+    nothing_fails : {done : Unit {0}} → joined ≡ Ok done → FirstFailed t list class work (Ok done) class_mid work_search
     nothing_fails e =
         record {
-          lent = both_lent;
+          lent = both_lent searched;
           failed =
               none_fails (subst (Partitioned t list class_mid) (ap (unclashed list) e) until.partitioned)
-              (subst (λ (k : ℕ). Cycle (graph_of t) (take k (pairs_of list)) → ⊥) (ap (unclashed list) e) no_cycle);
+              (subst (λ (k : ℕ). Cycle (graph_of t) (take k (pairs_of list)) → ⊥) (ap (unclashed list) e) (tells searched));
         }
+
+    -- so it is what the join has come to
+    pub joined_fails : (answer : Result (Unit {0}) Refusal) → MatchResult joined (λ done. answer ≡ Ok done) (λ at. IsErrAnd answer (λ refusal. refusal ≡ Refusal.Clash at))
+        → FirstFailed t list class work answer class_mid work_search
+    joined_fails answer m = go joined refl m
+      where
+        go : (j : Result (Unit {0}) PairNumber) → joined ≡ j → MatchResult j (λ done. answer ≡ Ok done) (λ at. IsErrAnd answer (λ refusal. refusal ≡ Refusal.Clash at))
+            → FirstFailed t list class work answer class_mid work_search
+        go (Ok done) e q = rw q (nothing_fails e)
+        go (Err at) e q = let p = err_from_is_err_and answer q in rw (p.1, p.2) (clash_fails e)
 
 -- ---- the answers
 
@@ -200,13 +218,13 @@ module _ {t list class work class_mid work_mid : List ℕ} (passes : Passes (job
     (first : FirstFailed t list class work failure class_mid work_mid) where
   pub refused_verdict : {refusal : Refusal} → failure ≡ Err refusal → {class_after : List ℕ} → class_after ≡ zeroed (length t) class_mid
       → Verdict t list class work (Err refusal) class_after work_mid
+  unfolding changes_nothing
   refused_verdict {refusal} is {class_after} e = go first.failed is
     where
       cleared_row : class_after ≡ zeroed (length t) class
       cleared_row = e ∙ ap (λ (rest : List ℕ). replicate (length t) 0 ++ rest) first.lent.class_behind
 
       clash_at_place : {at : PairNumber} (i : ℕ) → at.0 ≡ i + 1 → FirstClash (graph_of t) (pairs_of list) i → Verdict t list class work (Err (Refusal.Clash at)) class_after work_mid
-      unfolding changes_nothing
       clash_at_place i n f =
           record {
             answered = subst (λ (p : ℕ). Answered number (Fault (job_of t list class work)) match_order 10 p) (sym n) (clash_answered passes i f);
@@ -217,7 +235,6 @@ module _ {t list class work class_mid work_mid : List ℕ} (passes : Passes (job
           }
 
       cycle_at_place : {at : PairNumber} (i : ℕ) → at.0 ≡ i + 1 → FirstCycle (graph_of t) (pairs_of list) i → Verdict t list class work (Err (Refusal.Cycle at)) class_after work_mid
-      unfolding changes_nothing
       cycle_at_place i n f =
           record {
             answered = subst (λ (p : ℕ). Answered number (Fault (job_of t list class work)) match_order 11 p) (sym n) (cycle_answered passes i f);

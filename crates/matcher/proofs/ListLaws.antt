@@ -2,14 +2,20 @@
 -- sides. Assumes nothing.
 use mathlib.Core.Path.{◌≡◌, refl, sym, ap, ◌∙◌}
 use mathlib.Core.Bool.{Bool, true, false, not, ◌&&◌}
+use mathlib.Core.Logic.{◌⊎◌}
 use mathlib.Core.List.{List, [], ◌∷◌}
-use Prim.Native.Nat.{ℕ, ◌+◌, ◌*◌, ◌/◌, ◌%◌, ◌<◌}
+use Prim.Native.Nat.{ℕ, ◌+◌, ◌*◌, ◌/◌, ◌%◌, ◌≤◌, ◌<◌}
 use native.Mathlib.Omega.{arith}
 use lib.ListN.{length, get_or}
+use Rattle.std.specs.Prelude.{Option, Some, None}
+use Rattle.std.specs.Option.{MatchOption}
+use Rattle.words.specs.Limits.{most_entries}
+use Rattle.answering.specs.Answers.{Found}
 use Rattle.graphs.specs.Partition.{pairs_of}
 use Rattle.table.specs.Table.{kind_at, node_kind}
 use Rattle.table.specs.Faults.{pair_at, odd, bad_sides}
 use Rattle.table.proofs.Pairs.{length-pairs_of, length-pairs_of_over, pair_at_entries}
+use Rattle.matcher.specs.Steps.PassedAll.{BadList}
 
 pub odd_entries : (list : List ℕ) → length list % 2 ≡ 1 → odd list ≡ true
 unfolding odd
@@ -26,15 +32,14 @@ even_entries (l ∷ r ∷ rest) f = even_entries rest (λ e. f (omega arith))
 pub half_entries : (list : List ℕ) → length list / 2 ≡ length (pairs_of list)
 half_entries list = omega (arith, length-pairs_of list, length-pairs_of_over list)
 
-module _ (t list : List ℕ) (k : ℕ) (within : k < length (pairs_of list)) where
-  pub left_inside : 2 * k < length list
-  left_inside = omega (arith, length-pairs_of list)
+-- a list is bad by its own length, or good
+pub bad_list : (bad : Bool) (list : List ℕ) → (bad ≡ true → (odd list ≡ true) ⊎ (most_entries < length list)) → (bad ≡ false → (odd list ≡ false) × (length list ≤ most_entries)) → BadList bad list
+bad_list true list b g = b refl
+bad_list false list b g = g refl
 
-  pub right_inside : 2 * k + 1 < length list
-  right_inside = omega (arith, length-pairs_of list)
-
+module _ (t list : List ℕ) (k : ℕ) (inside : 2 * k + 1 < length list) where
   sides_by_entries : bad_sides t (pair_at (pairs_of list) k) ≡ not (node_kind (kind_at t (get_or list (2 * k) 0)) && node_kind (kind_at t (get_or list (2 * k + 1) 0)))
-  sides_by_entries = ap (bad_sides t) (pair_at_entries list k within)
+  sides_by_entries = ap (bad_sides t) (pair_at_entries list k (omega (arith, length-pairs_of_over list)))
 
   -- a left side that is a node leaves the answer to the right side
   pub left_node : {a b : Bool} → a ≡ node_kind (kind_at t (get_or list (2 * k) 0)) → a ≡ true → b ≡ node_kind (kind_at t (get_or list (2 * k + 1) 0))
@@ -43,6 +48,13 @@ module _ (t list : List ℕ) (k : ℕ) (within : k < length (pairs_of list)) whe
       ap not f
       ∙ sym (sides_by_entries ∙ ap (λ (c : Bool). not (c && node_kind (kind_at t (get_or list (2 * k + 1) 0)))) (sym e ∙ s))
 
-  pub left_no_node : {a : Bool} → a ≡ node_kind (kind_at t (get_or list (2 * k) 0)) → a ≡ false → true ≡ bad_sides t (pair_at (pairs_of list) k)
+  pub left_no_node : {a : Bool} → a ≡ node_kind (kind_at t (get_or list (2 * k) 0)) → a ≡ false → not a ≡ bad_sides t (pair_at (pairs_of list) k)
   left_no_node {a} e s =
-      sym (sides_by_entries ∙ ap (λ (c : Bool). not (c && node_kind (kind_at t (get_or list (2 * k + 1) 0)))) (sym e ∙ s))
+      ap not s
+      ∙ sym (sides_by_entries ∙ ap (λ (c : Bool). not (c && node_kind (kind_at t (get_or list (2 * k + 1) 0)))) (sym e ∙ s))
+
+-- what `find` over the numbers below n says
+pub found_below : (test : ℕ → Bool) {m n : ℕ} (r : Option ℕ) → m ≡ n
+    → MatchOption r ((k : ℕ) → 0 ≤ k → k < m → test k ≡ false) (λ i. (0 ≤ i) × (i < m) × (test i ≡ true) × ((k : ℕ) → 0 ≤ k → k < i → test k ≡ false)) → Found test n r
+found_below test (Some i) e f = (omega (arith, e, f.1), f.2, λ k h. f.3 k (omega arith) h)
+found_below test None e f = λ k h. f k (omega arith) (omega (arith, e))

@@ -9,7 +9,7 @@ use native.Mathlib.Omega.{arith}
 use borrow.Author.Tests.{ne_eqb, le-leb}
 use lib.Dec.{eqb, leb}
 use lib.ListN.{length, drop}
-use Rattle.std.specs.Prelude.{Result, Ok, Err}
+use Rattle.std.specs.Prelude.{Ok, Err}
 use Rattle.answering.specs.declared.fault.TableFault.{TableFault}
 use Rattle.answering.specs.Answers.{Answered}
 use Rattle.answering.specs.TableFaults.{number_of as fault_number}

@@ -13,7 +13,7 @@ use native.Mathlib.Decide.{dec_lt}
 use native.Mathlib.Omega.{arith}
 use lib.ListN.{length, take}
 use lib.Seq.{take_all}
-use Rattle.std.specs.Prelude.{Option, Some, None, Ok, Err}
+use Rattle.std.specs.Prelude.{Some, None, Ok, Err}
 use Rattle.words.specs.Limits.{most_entries}
 use Rattle.answering.specs.declared.fault.TableFault.{TableFault}
 use Rattle.answering.specs.Answers.{Found, Answered, NoneOf}

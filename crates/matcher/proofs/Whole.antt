@@ -2,14 +2,12 @@
 --
 -- In order: a table that passed its check (`table_passed`, `verdict_match`); the list's own faults. Assumes nothing.
 use mathlib.Core.Path.{◌≡◌, refl, sym, ap, ◌∙◌, subst}
-use mathlib.Core.Bool.{Bool, true, false}
+use mathlib.Core.Bool.{true, false}
 use mathlib.Core.List.{List, [], ◌∷◌, ◌++◌}
-use Prim.Native.Nat.{ℕ, ◌+◌, ◌*◌, ◌≤◌, ◌<◌}
+use Prim.Native.Nat.{ℕ, ◌+◌, ◌*◌}
 use native.Mathlib.Omega.{arith}
 use lib.ListN.{length, drop, replicate}
-use Rattle.std.specs.Prelude.{Option, Some, None, Ok, Err}
-use Rattle.words.specs.Limits.{most_entries}
-use Rattle.words.specs.declared.numbers.PairNumber.{PairNumber}
+use Rattle.std.specs.Prelude.{Some, None, Ok, Err}
 use Rattle.rows.specs.Placed.{zeroed}
 use Rattle.rows.proofs.Laws.{behind_cleared, cleared_again}
 use Rattle.answering.specs.Answers.{Answered, Found, NoneOf}
@@ -17,15 +15,12 @@ use Rattle.answering.specs.Buffers.{changes_nothing, left}
 use Rattle.answering.proofs.BufferLaws.{left-zeroed}
 use Rattle.graphs.specs.Partition.{pairs_of}
 use Rattle.table.specs.Faults.{Job, pair_at, bad_sides, LIST, Fault, number, check_order, match_order}
-use Rattle.checker.specs.Check.{Checked, CheckOf}
+use Rattle.checker.specs.Check.{CheckOf}
 use Rattle.matcher.specs.declared.answer.Refusal.{Refusal}
 use Rattle.matcher.specs.Match.{Matched, number_of, place_of, joins_of, AcceptedWith, job_of, MatchOf, Passes}
 use Rattle.matcher.specs.Steps.PassedAll.{BadList}
 use Rattle.matcher.specs.Steps.FirstFailure.{Standing, TablePassed, Verdict}
 use Rattle.matcher.proofs.Verdicts.{check_passed, list_answered, list_clear, side_answered, passes_all, ready}
-
-pub check_is : {t class work class₁ work₁ : List ℕ} {r s : Checked} → CheckOf t class work r class₁ work₁ → r ≡ s → CheckOf t class work s class₁ work₁
-check_is {t} {class} {work} {class₁} {work₁} c e = subst (λ (a : Checked). CheckOf t class work a class₁ work₁) e c
 
 -- ---- a table that passed its check
 
@@ -67,46 +62,33 @@ module _ {t class work class₁ work₁ : List ℕ} {done : Unit {0}} (list : Li
 -- ---- the list's own faults
 
 module _ {t list class work : List ℕ} (passed : TablePassed t list class work) where
-  pub list_verdict : {bad : Bool} → BadList bad list → bad ≡ true → Verdict t list class work (Err Refusal.List) class work
+  pub list_verdict : BadList true list → Verdict t list class work (Err Refusal.List) class work
   unfolding changes_nothing
-  list_verdict {bad} b e =
+  list_verdict bad =
       record {
-        answered = list_answered passed.clear (subst (λ (a : Bool). BadList a list) e b);
+        answered = list_answered passed.clear bad;
         late = refl;
         bound = λ z. absurd (omega arith);
         refused = λ z. sym passed.class_clean;
         work_same = refl;
       }
 
-  module _ {bad : Bool} (good : BadList bad list) (no_fault : bad ≡ false) where
-    good_list : BadList false list
-    good_list = subst (λ (a : Bool). BadList a list) no_fault good
-
+  module _ (good : BadList false list) where
     clear_of_8 : NoneOf (Fault (job_of t list class work)) (check_order ++ (LIST ∷ []))
-    clear_of_8 = list_clear passed.clear good_list.0 good_list.1
+    clear_of_8 = list_clear passed.clear good.0 good.1
 
-    pub few_entries : length list ≤ most_entries
-    few_entries = good_list.1
+    pub side_verdict : (k : ℕ) → Found (λ k. bad_sides t (pair_at (pairs_of list) k)) (length (pairs_of list)) (Some k) → Verdict t list class work (Err (Refusal.Side (record { 0 = k + 1 }))) class work
+    unfolding changes_nothing
+    side_verdict k found =
+        record {
+          answered = side_answered clear_of_8 k found;
+          late = refl;
+          bound = λ z. absurd (omega arith);
+          refused = λ z. sym passed.class_clean;
+          work_same = refl;
+        }
 
-    module _ {found : Option ℕ} (search : Found (λ k. bad_sides t (pair_at (pairs_of list) k)) (length (pairs_of list)) found) where
-      found_as : {r : Option ℕ} → found ≡ r → Found (λ k. bad_sides t (pair_at (pairs_of list) k)) (length (pairs_of list)) r
-      found_as e = subst (Found (λ k. bad_sides t (pair_at (pairs_of list) k)) (length (pairs_of list))) e search
-
-      pub bad_inside : {k : ℕ} → found ≡ Some k → k < length (pairs_of list)
-      bad_inside e = (found_as e).0
-
-      pub side_verdict : {k : ℕ} → found ≡ Some k → Verdict t list class work (Err (Refusal.Side (record { 0 = k + 1 }))) class work
-      unfolding changes_nothing
-      side_verdict {k} e =
-          record {
-            answered = side_answered clear_of_8 k (found_as e);
-            late = refl;
-            bound = λ z. absurd (omega arith);
-            refused = λ z. sym passed.class_clean;
-            work_same = refl;
-          }
-
-      pub checks_passed : found ≡ None → Standing t list class work × Passes (job_of t list class work)
-      checks_passed e =
-          let p : Passes (job_of t list class work) = passes_all clear_of_8 (found_as e) in
-          (record { ready = ready p; clean = passed.work_clean }, p)
+    pub checks_passed : Found (λ k. bad_sides t (pair_at (pairs_of list) k)) (length (pairs_of list)) None → Standing t list class work × Passes (job_of t list class work)
+    checks_passed none_found =
+        let p : Passes (job_of t list class work) = passes_all clear_of_8 none_found in
+        (record { ready = ready p; clean = passed.work_clean }, p)

@@ -24,10 +24,10 @@ pub enum Refusal {
 }
 
 impl From<TableFault> for Refusal {
-    ghost from_gives = { λ wrong refusal. refusal ≡ Table wrong };
+    ghost from_gives = { λ fault refusal. refusal ≡ Table fault };
 
-    fn from(wrong: TableFault) -> Refusal {
-        Refusal::Table(wrong)
+    fn from(fault: TableFault) -> Refusal {
+        Refusal::Table(fault)
     }
 }
 

@@ -111,7 +111,9 @@ pub(crate) fn unify(
     ensures { Verdict table.now list.now class.old work.old result class.new work.new }
 {
     match first_failure(table, list, class, work) {
-        Ok(()) => Ok(Counts { joins: classes::count_joins(table, class) }),
+        Ok(()) => Ok(Counts {
+            joins: classes::count_joins(table, class),
+        }),
         Err(failure) => {
             class[..table.len()].fill(0);
             Err(failure)

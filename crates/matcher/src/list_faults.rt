@@ -1,5 +1,5 @@
 // The answers 8 and 9: a list of an odd or too large number of entries, and a side that is no node.
-ghost use Rattle.std.specs.Prelude.{◌≡◌, ◌<◌, length};
+ghost use Rattle.std.specs.Prelude.{◌≡◌, ◌+◌, ◌*◌, ◌<◌, length};
 ghost use Rattle.graphs.specs.Partition.{pairs_of};
 ghost use Rattle.answering.specs.Answers.{Found};
 ghost use Rattle.table.specs.Faults.{pair_at, bad_sides};
@@ -18,7 +18,7 @@ pub(crate) fn is_bad_list(list: &[u16]) -> bool
 
 // Whether a side of the pair at place k, from 0, is not the address of a node.
 fn is_bad_pair(table: &[u32], list: &[u16], k: usize) -> bool
-    requires { k < length (pairs_of list.now) }
+    requires { 2 * k + 1 < length list.now }
     ensures { result ≡ bad_sides table.now (pair_at (pairs_of list.now) k) }
 {
     !node::is_node(table, Address(list[2 * k])) || !node::is_node(table, Address(list[2 * k + 1]))

@@ -20,8 +20,7 @@ use Rattle.table.specs.Table.{graph_of, choose, symbol_decide, named, named_from
 use Rattle.table.specs.Layout.{can_stand, after, at_end, break_from}
 use Rattle.table.specs.Faults.{bad_kind, bad_word, bad_target, odd, number, Fault, match_order}
 use Rattle.table.proofs.OneAnswer.{fault_once}
-use Rattle.matcher.specs.declared.answer.Matched.{Matched}
-use Rattle.matcher.specs.Match.{number_of, place_of, joins_of, AcceptedWith, job_of, MatchOf}
+use Rattle.matcher.specs.Match.{Matched, number_of, place_of, joins_of, AcceptedWith, job_of, MatchOf}
 use Rattle.matcher.proofs.OneMatch.{refused_joins}
 use Rattle.sheet.specs.Sheet.{Example, refused, examples, RowHolds}
 use Rattle.sheet.specs.Matcher.{Gives}

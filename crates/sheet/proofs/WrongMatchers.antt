@@ -27,8 +27,7 @@ use Rattle.graphs.proofs.Replay.{both_true, all_below_lem}
 use Rattle.graphs.proofs.Theorems.{class_table_only}
 use Rattle.table.specs.Table.{TableSymbols, graph_of, head_of}
 use Rattle.table.specs.Faults.{Job, number, Fault, check_order, list_rows, pair_rows, match_order}
-use Rattle.matcher.specs.declared.answer.Matched.{Matched}
-use Rattle.matcher.specs.Match.{number_of, place_of, joins_of, job_of, Passes}
+use Rattle.matcher.specs.Match.{Matched, number_of, place_of, joins_of, job_of, Passes}
 use Rattle.matcher.specs.Demands.{Met}
 use Rattle.matcher.proofs.Demands.{accepted_exactly, answer_makes_equal}
 use Rattle.sheet.specs.Sheet.{Example, example_c, examples}

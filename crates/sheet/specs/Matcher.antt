@@ -1,8 +1,7 @@
 -- What a matcher is, when one meets the contract of a match, and when a match gives what a row of the sheet says.
 -- Assumes nothing.
 use Rattle.std.specs.Prelude.{◌≡◌, List, ℕ, ◌<◌, length, get_or, take}
-use Rattle.matcher.specs.declared.answer.Matched.{Matched}
-use Rattle.matcher.specs.Match.{number_of, place_of, joins_of, MatchOf}
+use Rattle.matcher.specs.Match.{Matched, number_of, place_of, joins_of, MatchOf}
 use Rattle.sheet.specs.Sheet.{Example}
 
 -- From a table, a list and what the class and the work buffer hold, to the answer and what the two buffers hold then.

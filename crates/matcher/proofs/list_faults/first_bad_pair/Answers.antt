@@ -1,23 +1,21 @@
--- `matcher::list_faults::first_bad_pair` meets its contract: no pair passed has a bad side. Assumes nothing.
+-- `matcher::list_faults::first_bad_pair` meets its contract. Assumes nothing.
+use mathlib.Core.Path.{◌≡◌}
+use mathlib.Core.Bool.{Bool, true, false}
+use Prim.Native.Nat.{ℕ}
 use native.Mathlib.Omega.{arith}
-use Rattle.shape.proofs.Search.{passed_none, passed_more, found_here, found_nowhere}
-use Rattle.matcher.proofs.ListLaws.{half_entries}
+use borrow.Author.Rules.{rules}
+use Rattle.std.proofs.Common.{tests}
+use Rattle.std.proofs.lemmas.Iterator.{first_from_Range, serves_from_Range}
+use Rattle.graphs.specs.Partition.{pairs_of}
+use Rattle.table.specs.Faults.{pair_at, bad_sides}
+use Rattle.matcher.proofs.ListLaws.{half_entries, found_below}
 use Rattle.matcher.proofs.list_faults.first_bad_pair.Goals as goal
 
-pub loop-k-init : goal.loop-k-init
-loop-k-init c = passed_none _ _
-
-pub is_bad_pair-requires : goal.is_bad_pair-requires
-is_bad_pair-requires c = omega (arith, half_entries c.args.list.now)
-
-pub returns-then-is_bad_pair : goal.returns-then-is_bad_pair
-returns-then-is_bad_pair c = found_here c.loop-k.invariant c.is_bad_pair.ensures c.if-is_bad_pair.true
-
-pub loop-k-smaller : goal.loop-k-smaller
-loop-k-smaller c = omega (arith, half_entries c.args.list.now)
-
-pub loop-k-preserved : goal.loop-k-preserved
-loop-k-preserved c = passed_more c.loop-k.invariant (omega (arith, half_entries c.args.list.now)) c.is_bad_pair.ensures c.if-is_bad_pair.false
+pub find-requires-clause-callable : goal.find-requires-clause-callable
+find-requires-clause-callable c = serves_from_Range (λ x q k. search (rules, tests)) (λ x low high. omega arith)
 
 pub returns : goal.returns
-returns c = found_nowhere c.loop-k.invariant (omega (arith, half_entries c.args.list.now))
+returns c =
+    let bad : ℕ → Bool = λ k. bad_sides c.args.table.now (pair_at (pairs_of c.args.list.now) k) in
+    found_below bad _ (half_entries c.args.list.now)
+    (first_from_Range _ _ _ _ (λ k. bad k ≡ true) (λ k. bad k ≡ false) c.find.ensures.ran (λ x q k. search (rules, tests)) (λ x q k. (search (rules, tests), search (rules, tests))))
