@@ -21,23 +21,16 @@ use Rattle.jobfile.specs.File.{count_in, GoodFile}
 use Rattle.jobfile.specs.Faults.{FileRow, ReadFault, file_number, read_order}
 use Rattle.jobfile.specs.Reader.{fault_number, fault_place, Judged}
 use Rattle.jobfile.specs.declared.answers.FileFault.{FileFault}
-use Rattle.jobfile.specs.declared.answers.FileFault.TheVariants.{File as BadFile, Contents, Body}
 use Rattle.jobfile.specs.declared.found.NoJob.{NoJob}
 use Rattle.jobfile.specs.declared.found.NoJob.TheVariants.{File, Number}
 use Rattle.jobfile.specs.Found.{FoundBy, refusal_number as no_job_number}
-use Rattle.jobfile.proofs.ReaderLaws.{read_once, good_judged}
+use Rattle.jobfile.proofs.ReaderLaws.{fault_refuses, read_once, good_judged}
 use Rattle.jobfile.specs.Jobs.{words_of, JobWith}
 use Rattle.host.specs.Host.{called_job, HostRow, of_file, JOB, SIZE, ROOM, of_match, host_number, HostFault, file_fault, job_fault, size_fault, room_fault, match_fault, call_rows, early_order, late_order, report_of, writes_nothing, HostOf}
 use Rattle.host.specs.Steps.Choice.{Early}
 use Rattle.host.proofs.ReportLaws.{room_untouched}
 
 -- ---- the rows
-
--- what refuses a file has a number
-pub fault_refuses : (fault : FileFault) → fault_number fault ≡ 0 → ⊥
-fault_refuses BadFile z = omega (arith, z)
-fault_refuses Contents z = omega (arith, z)
-fault_refuses (Body entry) z = omega (arith, z)
 
 module _ (bytes : List ℕ) (job : ℕ) (room : List ℕ) where
   pub host_once : (row : HostRow) (p q : ℕ) → HostFault bytes job room row p → HostFault bytes job room row q → p ≡ q

@@ -16,13 +16,12 @@ use Rattle.jobfile.specs.File.{count_in, sizes_in, GoodFile}
 use Rattle.jobfile.specs.Faults.{FileRow, ROOM, FILE, CONTENTS, BODY, file_number, read_order}
 use Rattle.jobfile.specs.Reader.{fault_number, fault_place, Judged}
 use Rattle.jobfile.specs.declared.answers.FileFault.{FileFault}
-use Rattle.jobfile.proofs.ReaderLaws.{read_once, good_judged}
+use Rattle.jobfile.proofs.ReaderLaws.{read_once, fault_refuses, good_judged}
 use Rattle.host.specs.AsOne.{as_one}
 use Rattle.host.specs.Sizes.{SizesFault, SizesOf}
 use Rattle.host.specs.Steps.Copied.{refusal_number, refusal_place, SizesCopied}
 use Rattle.host.specs.declared.sizes.Refusal.{Refusal}
 use Rattle.host.specs.declared.sizes.Refusal.TheVariants.{File, Room}
-use Rattle.host.proofs.ChoiceLaws.{fault_refuses}
 
 pub sizes_once : (bytes sizes : List ℕ) (row : FileRow) (p q : ℕ) → SizesFault bytes sizes row p → SizesFault bytes sizes row q → p ≡ q
 sizes_once bytes sizes FILE p q a b = read_once FILE p q a b

@@ -4,7 +4,7 @@
 --     the bodies        EntriesWalked, walked_none, walked_more: what a walk along the entries knows
 --                       bodies_wrong, bodies_past, bodies_follow, bodies_good: how it ends
 --     the whole         judged_file, judged_contents, judged_bodies
---     one answer        read_once, answered_once, judged_only, read_only, bodies_only
+--     one answer        read_once, answered_once, fault_refuses, judged_only, read_only, bodies_only
 --     a good file       body_inside, good_judged, judged_good, passed_good, good_number
 -- Assumes nothing.
 use mathlib.Core.Path.{◌≡◌, refl, sym, ap, ap₂, ◌∙◌, subst}
@@ -27,8 +27,9 @@ use Rattle.answering.proofs.LowestLaws.{lowest_only}
 use Rattle.answering.proofs.Orders.{answered_only, passed_none}
 use Rattle.jobfile.specs.File.{body_size, contents_end, count_in, offset_in, words_in, pairs_in, body_start, GoodFile}
 use Rattle.jobfile.specs.Faults.{FileRow, FILE, CONTENTS, BODY, file_number, BodyFault, wrong_offset, past_end, bytes_follow, ReadFault, file_fault, contents_fault, body_fault, read_order}
-use Rattle.jobfile.specs.Reader.{FileAnswer, number_of, place_of, Judged, yielded_sizes, yielded_bodies, in_row, Holds, ReadOf, BodiesOf}
+use Rattle.jobfile.specs.Reader.{FileAnswer, fault_number, number_of, place_of, Judged, yielded_sizes, yielded_bodies, in_row, Holds, ReadOf, BodiesOf}
 use Rattle.jobfile.specs.Steps.Reading.{Opened, BodiesJudged}
+use Rattle.jobfile.specs.declared.answers.FileFault.{FileFault}
 use Rattle.jobfile.specs.declared.answers.FileFault.TheVariants.{File, Contents, Body}
 use Rattle.jobfile.specs.declared.sizes.Sizes.{Sizes}
 use Rattle.jobfile.proofs.FileLaws.{next_start}
@@ -152,6 +153,12 @@ answer_by_numbers (Err Contents) = refl
 answer_by_numbers (Err (Body entry)) = refl
 
 -- A file has one answer, by its numbers ..
+-- what refuses a file has a number
+pub fault_refuses : (fault : FileFault) → fault_number fault ≡ 0 → ⊥
+fault_refuses File z = omega (arith, z)
+fault_refuses Contents z = omega (arith, z)
+fault_refuses (Body entry) z = omega (arith, z)
+
 pub answered_once : {bytes : List ℕ} {a p b q : ℕ} → Answered file_number (ReadFault bytes) read_order a p → Answered file_number (ReadFault bytes) read_order b q → (a ≡ b) × (p ≡ q)
 answered_once {bytes} {a} {p} {b} {q} x y = answered_only file_number (ReadFault bytes) read_once read_order a p b q x y
 

@@ -12,7 +12,7 @@ use native.Mathlib.Omega.{arith}
 use lib.ListN.{length, take, drop, get_or, set, length-append}
 use lib.Seq.{drop-cons, take_at, set_at, append_snoc, length-take-le}
 use Rattle.rows.specs.Placed.{placed}
-use Rattle.rows.proofs.Laws.{behind_stays}
+use Rattle.rows.proofs.Laws.{copied_front as front_copied, behind_stays}
 use Rattle.lines.specs.Decimal.{decimal, numbers_from, numbers_in}
 use Rattle.lines.specs.Lines.{SPACE, NEWLINE, field, job_line, variable_line, file_line, LineIn, TextIn, Counts}
 use Rattle.lines.proofs.Decimals.{numbers_end, decimal_read}
@@ -116,8 +116,8 @@ pub line_written : {line row after : List ℕ} {r : ℕ} → LineIn line row r a
 line_written {line} {row} {r = r} l = ap (take r) l.there ∙ take_at line (drop (length line) row) r (sym l.long)
 
 -- .. also where it was copied to the front of another row ..
-pub copied_front : {line row₀ after₀ row after : List ℕ} {r : ℕ} → LineIn line row₀ r after₀ → after ≡ take r after₀ ++ drop (length (take r after₀)) row → LineIn line row r after
-copied_front {row = row} l e = record { long = l.long; there = e ∙ ap (λ (text : List ℕ). text ++ drop (length text) row) (line_written l) }
+pub copied_front : {line row₀ after₀ copied : List ℕ} (row : List ℕ) {r : ℕ} → LineIn line row₀ r after₀ → copied ≡ take r after₀ → LineIn line row r (copied ++ drop r row)
+copied_front {line} {copied = copied} row {r} l e = record { long = l.long; there = front_copied r line row copied l.long (e ∙ line_written l) }
 
 -- .. and so is such text
 pub text_written : {Text : List ℕ → Type 0} {row after : List ℕ} {r : ℕ} → TextIn Text row r after → Text (take r after)

@@ -8,12 +8,10 @@ mod fields;
 mod input;
 
 ghost use Rattle.std.specs.Prelude.{◌≤◌};
-ghost use Rattle.jobfile.specs.Reader.{fault_number, fault_place};
 ghost use Rattle.lines.specs.Lines.{job_line, variable_line, file_line, header_line, line_room, LineIn, Counts};
 
 use answering::answer::Answer;
 pub use input::read_to_fill;
-use jobfile::answers::FileFault;
 use words::numbers::{Address, Label};
 
 // No line is longer: four numbers of five digits, with a byte after each.
@@ -53,14 +51,14 @@ pub fn variable_line(at: Address, label: Label, name: Address, line: &mut [u8; L
     fields::put_field(line, last, name.0, b'\n')
 }
 
-// `file`, then the number and the place of the refusal of a file.
-pub fn file_line(fault: FileFault, line: &mut [u8; LINE_ROOM]) -> usize
+// `file`, then the number and the place of the answer by which a file is refused.
+pub fn file_line<A: Answer>(answer: A, line: &mut [u8; LINE_ROOM]) -> usize
     ensures counts { Counts result line.new }
-    ensures line_in { LineIn (file_line (fault_number fault) (fault_place fault)) line.old result line.new }
+    ensures line_in { LineIn (file_line (A.number_of answer) (A.place_of answer)) line.old result line.new }
     ensures upper_bound { result ≤ line_room }
 {
-    let number = fault.number();
-    let place = fault.place();
+    let number = answer.number();
+    let place = answer.place();
     line[..5].copy_from_slice(b"file ");
     let last = fields::put_field(line, 5, number, b' ');
     fields::put_field(line, last, place, b'\n')

@@ -1,22 +1,21 @@
 -- A job taken out of its file, matched and told. In order: its rows (`rows_for_job`); what was taken is the job (`job_matched`);
--- an accepted table fits (`accepted_fits`); the lines are the job's (`job_told`). Assumes nothing.
+-- an accepted table can be told (`tellable`); the lines are the job's (`job_told`). Assumes nothing.
 use mathlib.Core.Path.{◌≡◌, refl, sym, ap, ap₂, ◌∙◌, subst}
 use mathlib.Core.List.{List, [], ◌++◌}
 use Prim.Native.Nat.{ℕ, ◌+◌, ◌*◌, ◌≤◌}
-use native.Mathlib.Decide.{ℕ_discrete}
 use native.Mathlib.Omega.{arith}
+use Rattle.std.specs.Prelude.{Ok, Err, OnOk}
 use lib.ListN.{length, take, drop}
 use lib.Seq.{take_all, length-take-le}
 use Rattle.words.specs.Limits.{most_words, most_bytes}
 use Rattle.answering.specs.Answers.{Answered}
-use Rattle.answering.proofs.Orders.{passed_none}
 use Rattle.graphs.specs.Partition.{ClassTable, joins}
 use Rattle.table.specs.Table.{graph_of}
 use Rattle.table.specs.Faults.{sent, Fault, number, match_order}
-use Rattle.matcher.specs.Match.{Matched, number_of, place_of, joins_of, AcceptedWith, MatchOf}
+use Rattle.matcher.specs.Match.{Matched, number_of, place_of, AcceptedWith, MatchOf}
 use Rattle.matcher.proofs.Verdicts.{ready}
 use Rattle.matcher.proofs.Demands.{accepted_passes}
-use Rattle.matcher.proofs.OneMatch.{refused_joins}
+use Rattle.matcher.proofs.OneMatch.{refusal_refuses}
 use Rattle.jobfile.specs.File.{words_in, pairs_in, body_start, body_in}
 use Rattle.jobfile.specs.Jobs.{FileJob, entries_of, entry_of, words_of, list_of, JobThere, JobTaken}
 use Rattle.jobfile.proofs.NumberLaws.{length-row_in}
@@ -27,7 +26,7 @@ use Rattle.jobfile.proofs.Theorems.{job_body}
 use Rattle.lines.specs.Lines.{job_line, LineIn, TextIn}
 use Rattle.listing.specs.Listing.{variable_lines, sent_for, JobListed, job_refused, job_accepted}
 use Rattle.listing.specs.Parts.{job_at}
-use Rattle.listing.specs.Steps.Putting.{job_room, answer_line, AnswerTold, RowsForListing}
+use Rattle.listing.specs.Steps.Putting.{job_room, Tellable, answer_line, answer_lines, RowsForListing}
 use Rattle.listing.proofs.PutLaws.{lines_front}
 
 -- ---- its rows
@@ -72,49 +71,38 @@ job_matched {file} {list = list} {class} {work} {t = t} {l} {class_after} {work_
 
 -- ---- an accepted table
 
-pub accepted_fits : {t l class work class_after work_after : List ℕ} {answer : Matched} → MatchOf t l class work answer class_after work_after → number_of answer ≡ 0 → length t ≤ most_words
-accepted_fits m z = (ready (accepted_passes m z)).passed.readable.small
+-- its variables can be told
+pub tellable : {t l class work class_after work_after : List ℕ} → length class ≡ most_words → (answer : Matched) → MatchOf t l class work answer class_after work_after → length class_after ≡ length class
+    → OnOk answer (Tellable t class_after)
+tellable {t = t} long (Ok counts) m same =
+    let small : length t ≤ most_words = (ready (accepted_passes m refl)).passed.readable.small in
+    (small, omega (arith, long, same, small))
+tellable long (Err refusal) m same = tt
 
 -- ---- its lines
 
-module _ (k : ℕ) (job : FileJob) {class work class_after work_after row after : List ℕ} {answer : Matched} {r : ℕ} (classes : length class ≡ most_words) (works : length work ≡ 4 * most_words)
-    (m : MatchOf job.words (entries_of job.pairs) class work answer class_after work_after) (told : AnswerTold k answer job.words class_after row r after) where
-  answered : Answered number (Fault (sent_for job)) match_order (number_of answer) (place_of answer)
-  answered =
+module _ (k : ℕ) (job : FileJob) {class work class_after work_after : List ℕ} (classes : length class ≡ most_words) (works : length work ≡ 4 * most_words) where
+  answered : {answer : Matched} → MatchOf job.words (entries_of job.pairs) class work answer class_after work_after → Answered number (Fault (sent_for job)) match_order (number_of answer) (place_of answer)
+  answered {answer} m =
       subst (λ (w : ℕ). Answered number (Fault (sent job.words (entries_of job.pairs) most_words w)) match_order (number_of answer) (place_of answer)) works
       (subst (λ (c : ℕ). Answered number (Fault (sent job.words (entries_of job.pairs) c (length work))) match_order (number_of answer) (place_of answer)) classes m.answered)
 
-  listed_accepted : number_of answer ≡ 0 → TextIn (JobListed k job) row r after
-  unfolding number
-  listed_accepted z =
-      let b : AcceptedWith job.words (entries_of job.pairs) class class_after (joins_of answer) = m.bound z in
+  job_listed : {row after : List ℕ} {r : ℕ} (answer : Matched) → MatchOf job.words (entries_of job.pairs) class work answer class_after work_after → LineIn (answer_lines k answer job.words class_after) row r after → TextIn (JobListed k job) row r after
+  job_listed {row} {after} {r} (Ok counts) m told =
+      let b : AcceptedWith job.words (entries_of job.pairs) class class_after counts.joins = m.bound refl in
       let table : ClassTable (graph_of job.words) job.pairs b.table = subst (λ ps. ClassTable (graph_of job.words) ps b.table) (pairs_entries job.pairs) b.class_table in
-      let place : place_of answer ≡ 0 = (passed_none number (Fault (sent_for job)) match_order (number_of answer) (place_of answer) refl z answered).1 in
-      let line : answer_line k answer ≡ job_line k 0 0 (joins (graph_of job.words) b.table) = rw (z, place, b.joins_counted) in
+      let line : answer_line k (Ok counts) ≡ job_line k 0 0 (joins (graph_of job.words) b.table) = ap (job_line k 0 0) b.joins_counted in
       let variables : variable_lines job.words class_after ≡ variable_lines job.words b.table =
       ap (variable_lines job.words) b.row ∙ lines_front job.words b.table (drop (length job.words) class) (length job.words) (omega (arith, table.long)) in
       record {
         text = job_line k 0 0 (joins (graph_of job.words) b.table) ++ variable_lines job.words b.table;
-        is = job_accepted (subst (λ (p : ℕ). Answered number (Fault (sent_for job)) match_order 0 p) place (subst (λ (a : ℕ). Answered number (Fault (sent_for job)) match_order a (place_of answer)) z answered)) table;
-        there = subst (λ (text : List ℕ). LineIn text row r after) (ap₂ (λ (f g : List ℕ). f ++ g) line variables) (told.accepted z);
+        is = job_accepted (answered m) table;
+        there = subst (λ (text : List ℕ). LineIn text row r after) (ap₂ (λ (f g : List ℕ). f ++ g) line variables) told;
       }
+  job_listed (Err refusal) m told = record { text = answer_line k (Err refusal); is = job_refused (answered m) (refusal_refuses refusal); there = told }
 
-  listed_refused : (number_of answer ≡ 0 → ⊥) → TextIn (JobListed k job) row r after
-  listed_refused other = record {
-    text = job_line k (number_of answer) (place_of answer) 0;
-    is = job_refused answered other;
-    there = subst (λ (j : ℕ). LineIn (job_line k (number_of answer) (place_of answer) j) row r after) (refused_joins answer other) (told.refused other);
-  }
-
-  job_listed : TextIn (JobListed k job) row r after
-  job_listed = go (ℕ_discrete (number_of answer) 0)
-    where
-      go : Dec (number_of answer ≡ 0) → TextIn (JobListed k job) row r after
-      go (yes z) = listed_accepted z
-      go (no other) = listed_refused other
-
-pub job_told : {file table list class work row t l class_after work_after after : List ℕ} {job r : ℕ} {answer : Matched} → RowsForListing file job table list class work row → JobTaken file job list t l
-    → MatchOf t l class work answer class_after work_after → AnswerTold job answer t class_after row r after → TextIn (JobListed job (job_at file job)) row r after
-job_told {file} {row = row} {class_after = class_after} {after = after} {job} {r} {answer} rows taken m told =
+pub job_told : {file table list class work row t l class_after work_after after : List ℕ} {job r : ℕ} (answer : Matched) → RowsForListing file job table list class work row → JobTaken file job list t l
+    → MatchOf t l class work answer class_after work_after → LineIn (answer_lines job answer t class_after) row r after → TextIn (JobListed job (job_at file job)) row r after
+job_told {file} {row = row} {class_after = class_after} {after = after} {job} {r} answer rows taken m told =
     let matched = job_matched rows taken m in
-    job_listed job (job_at file job) rows.classes rows.works matched.1 (subst (λ (t : List ℕ). AnswerTold job answer t class_after row r after) matched.0 told)
+    job_listed job (job_at file job) rows.classes rows.works answer matched.1 (subst (λ (t : List ℕ). LineIn (answer_lines job answer t class_after) row r after) matched.0 told)

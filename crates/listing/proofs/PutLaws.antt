@@ -5,7 +5,7 @@
 -- Assumes nothing.
 use mathlib.Core.Path.{◌≡◌, refl, sym, ap, ap₂, ◌∙◌}
 use mathlib.Core.List.{List, [], ◌++◌, append-nil}
-use Prim.Native.Nat.{ℕ, zero, suc, ◌+◌, ◌-◌, ◌*◌, ◌≤◌, ◌<◌}
+use Prim.Native.Nat.{ℕ, zero, suc, ◌+◌, ◌*◌, ◌≤◌, ◌<◌}
 use native.Mathlib.Numerals.{add-one}
 use native.Mathlib.Omega.{arith}
 use lib.ListN.{length, take, drop, get_or, length-append, take-append-drop, get_or-append}
@@ -15,7 +15,9 @@ use Rattle.words.specs.Limits.{most_words}
 use Rattle.words.specs.declared.kind.Kind.{Kind}
 use Rattle.table.specs.Table.{kind_at, content_at}
 use Rattle.table.proofs.Leaves.{picked, passed}
-use Rattle.jobfile.proofs.WriterLaws.{placed_next, copied_behind}
+use borrow.Rule.Slice.PartMut.{put_mid}
+use Rattle.rows.proofs.Laws.{copied_within}
+use Rattle.jobfile.proofs.WriterLaws.{placed_next}
 use Rattle.lines.specs.Lines.{variable_line, line_room, LineIn}
 use Rattle.lines.proofs.LineLaws.{line_written}
 use Rattle.listing.specs.Listing.{line_at, lines_below}
@@ -24,14 +26,8 @@ use Rattle.listing.specs.Steps.Putting.{job_room, PutAt}
 -- ---- one line
 
 module _ {line line₀ line_after : List ℕ} {size : ℕ} (l : LineIn line line₀ size line_after) where
-  pub copied_line : {part : List ℕ} (at : ℕ) (row : List ℕ) → at + size ≤ length row → part ≡ take size line_after ++ drop (length (take size line_after)) (take (length row - at) (drop at row))
-      → PutAt line at row (at + size) (take at row ++ (part ++ drop (length row - at) (drop at row)))
-  copied_line at row inside e =
-      let whole : take size line_after ≡ line = line_written l in
-      record {
-        next = ap (λ (n : ℕ). at + n) l.long;
-        there = copied_behind at (take size line_after) row (omega (arith, ap length whole, l.long)) e ∙ ap (λ (text : List ℕ). placed at text row) whole;
-      }
+  pub copied_line : (at : ℕ) {k : ℕ} (row : List ℕ) {copied : List ℕ} → k ≡ size → copied ≡ take size line_after → PutAt line at row (at + size) (put_mid at k row copied)
+  copied_line at {k} row {copied} long e = record { next = ap (λ (n : ℕ). at + n) l.long; there = copied_within at k line row copied (long ∙ l.long) (e ∙ line_written l) }
 
 put_nothing : (at : ℕ) (row : List ℕ) → PutAt [] at row at row
 unfolding placed

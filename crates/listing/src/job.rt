@@ -1,15 +1,14 @@
 // The lines of one job: its table and list are taken out of the file and matched, and the answer is told.
-ghost use Rattle.std.specs.Prelude.{◌≡◌, ◌≤◌, length};
-ghost use Rattle.matcher.specs.Match.{number_of};
+ghost use Rattle.std.specs.Prelude.{◌≤◌, length, OnOk};
 ghost use Rattle.lines.specs.Lines.{line_room, LineIn, TextIn};
 ghost use Rattle.listing.specs.Listing.{JobListed};
 ghost use Rattle.listing.specs.Parts.{job_at};
-ghost use Rattle.listing.specs.Steps.Putting.{job_room, Tellable, answer_line, AnswerTold, RowsForListing};
+ghost use Rattle.listing.specs.Steps.Putting.{job_room, Tellable, answer_line, answer_lines, RowsForListing};
 
 use crate::variables;
+use answering::answer::Answer;
 use jobfile::FoundJob;
 use lines::LINE_ROOM;
-use answering::answer::Answer;
 use matcher::answer;
 use matcher::answer::{Counts, Refusal};
 use words::limits::{MOST_BYTES, MOST_WORDS};
@@ -32,15 +31,21 @@ fn put_job(job: u16, answer: Result<Counts, Refusal>, row: &mut [u8]) -> usize
 }
 
 // The same, and after an accepted job the lines of its variables.
-fn put_answer(job: u16, answer: Result<Counts, Refusal>, table: &[u32], class: &[u16], row: &mut [u8]) -> usize
-    requires { (number_of answer ≡ 0 → Tellable table.now class.now) × (job_room ≤ length row.old) }
-    ensures { AnswerTold job answer table.now class.now row.old result row.new × (result ≤ job_room) }
+fn put_answer(
+    job: u16,
+    answer: Result<Counts, Refusal>,
+    table: &[u32],
+    class: &[u16],
+    row: &mut [u8],
+) -> usize
+    requires { OnOk answer (Tellable table.now class.now) × (job_room ≤ length row.old) }
+    ensures { LineIn (answer_lines job answer table.now class.now) row.old result row.new × (result ≤ job_room) }
 {
     let size = put_job(job, answer, row);
-    if answer.number() == 0 {
-        return variables::put_variables(table, class, row, size);
+    match answer {
+        Ok(_) => variables::put_variables(table, class, row, size),
+        Err(_) => size,
     }
-    size
 }
 
 // Matches a job in rows of just the right lengths, and tells it.

@@ -8,29 +8,11 @@ mod job;
 mod parts;
 mod variables;
 
-ghost use Rattle.std.specs.Prelude.{◌≤◌, length};
-
 use lines::LINE_ROOM;
 use parts::JOB_ROOM;
 use std::io;
-use std::io::Read;
 use std::process::ExitCode;
 use words::limits::MOST_BYTES;
-
-// Reads standard input into the row until it is full, the input ends or a read fails, and returns how many bytes were read.
-fn read_input(rt: &HostRuntime, file: &mut [u8]) -> usize
-    ensures { result ≤ length file.new }
-{
-    let mut input = rt.stdin();
-    let mut size = 0;
-    while size < file.len() {
-        match input.read(&mut file[size..]) {
-            Ok(0) | Err(_) => return size,
-            Ok(count) => size += count,
-        }
-    }
-    size
-}
 
 // Writes the first line.
 fn write_first_line(rt: &HostRuntime, file: &[u8]) -> io::Result<()> {
@@ -58,10 +40,12 @@ fn write_listing(rt: &HostRuntime, file: &[u8]) -> io::Result<()> {
 // A file has at most 32,768 bytes; one byte more is read, so that a longer one is refused and not cut short.
 fn main(rt: HostRuntime) -> ExitCode {
     let mut file = [0u8; MOST_BYTES + 1];
-    let size = read_input(&rt, &mut file);
-    if write_listing(&rt, &file[..size]).is_ok() {
-        return ExitCode::SUCCESS;
+    let size = lines::read_to_fill(&mut rt.stdin(), &mut file);
+    match write_listing(&rt, &file[..size]) {
+        Ok(()) => ExitCode::SUCCESS,
+        Err(_) => {
+            let _ = rt.eprint("station-listing: the listing was not written to its end\n");
+            ExitCode::FAILURE
+        }
     }
-    let _ = rt.eprint("station-listing: the listing was not written to its end\n");
-    ExitCode::FAILURE
 }

@@ -16,8 +16,9 @@ fn put_variable(x: Address, label: Label, name: Address, row: &mut [u8], at: usi
 {
     let mut line = [0u8; LINE_ROOM];
     let size = lines::variable_line(x, label, name, &mut line);
-    rows::copy8(&line[..size], &mut row[at..]);
-    at + size
+    let next = at + size;
+    row[at..next].copy_from_slice(&line[..size]);
+    next
 }
 
 // The same for address x, where nothing is put if no variable stands there.

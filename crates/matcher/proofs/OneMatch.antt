@@ -22,7 +22,7 @@ use Rattle.table.specs.Table.{graph_of}
 use Rattle.table.specs.Faults.{Job, sent, Fault, number, match_order}
 use Rattle.table.proofs.OneAnswer.{fault_once}
 use Rattle.matcher.specs.declared.answer.Refusal.{Refusal}
-use Rattle.matcher.specs.Match.{Matched, number_of, place_of, joins_of, job_of, MatchOf}
+use Rattle.matcher.specs.Match.{Matched, refusal_number, number_of, place_of, joins_of, job_of, MatchOf}
 
 -- the answer that has a number, a place and joins
 answer_with : ℕ → ℕ → ℕ → Matched
@@ -52,6 +52,14 @@ numbers_fix_answer r s n p j =
     ∙ ap (λ (k : ℕ). answer_with k (place_of r) (joins_of r)) n
     ∙ ap₂ (answer_with (number_of s)) p j
     ∙ answer_by_numbers s
+
+-- What refuses a list has a number.
+pub refusal_refuses : (refusal : Refusal) → refusal_number refusal ≡ 0 → ⊥
+refusal_refuses (Refusal.Table fault) z = omega (arith, z, (known fault).1)
+refusal_refuses Refusal.List z = omega (arith, z)
+refusal_refuses (Refusal.Side k) z = omega (arith, z)
+refusal_refuses (Refusal.Clash k) z = omega (arith, z)
+refusal_refuses (Refusal.Cycle k) z = omega (arith, z)
 
 -- "Joins is 0 on refusal."
 pub refused_joins : (r : Matched) → (number_of r ≡ 0 → ⊥) → joins_of r ≡ 0

@@ -9,7 +9,7 @@ use Rattle.lines.proofs.file_line.Goals as goal
 
 pub returns : goal.returns
 unfolding file_line
-returns c = let word = line_word file_word c.args.line.now c.copy_from_slice.new.self c.copy_from_slice.ensures.after in
+returns g c = let word = line_word file_word c.args.line.now c.copy_from_slice.new.self c.copy_from_slice.ensures.after in
     let one = line_more (field c.number-number.result SPACE) word c.put_field-last.ensures.0 c.put_field-last.ensures.2 in
     let all = line_more (field c.place-place.result NEWLINE) one c.put_field.ensures.0 c.put_field.ensures.2 in record {
       counts = line_counts c.put_field.result c.put_field.new.row (omega arith);

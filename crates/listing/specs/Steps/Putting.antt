@@ -1,11 +1,11 @@
 -- Lines put into a lent row, one after the other. For this crate alone. Assumes nothing.
-use Rattle.std.specs.Prelude.{◌≡◌, List, ◌++◌, ℕ, ◌+◌, ◌*◌, ◌≤◌, length}
+use Rattle.std.specs.Prelude.{◌≡◌, List, ◌++◌, ℕ, ◌+◌, ◌*◌, ◌≤◌, length, Ok, Err}
 use Rattle.words.specs.Limits.{most_words}
 use Rattle.rows.specs.Placed.{placed}
 use Rattle.matcher.specs.Match.{Matched, number_of, place_of, joins_of}
 use Rattle.jobfile.specs.File.{pairs_in}
 use Rattle.jobfile.specs.Jobs.{entry_of, RowsForJob}
-use Rattle.lines.specs.Lines.{job_line, line_room, LineIn}
+use Rattle.lines.specs.Lines.{job_line, line_room}
 use Rattle.listing.specs.Listing.{variable_lines}
 
 -- a job has a line for itself and at most one for each word
@@ -25,10 +25,10 @@ Tellable table class = (length table ≤ most_words) × (length table ≤ length
 abbrev pub answer_line : ℕ → Matched → List ℕ
 answer_line job answer = job_line job (number_of answer) (place_of answer) (joins_of answer)
 
--- that line at the front of a row, and after an accepted job the lines of its variables, by the class entries after the match
-pub record AnswerTold (job : ℕ) (answer : Matched) (table class row : List ℕ) (r : ℕ) (after : List ℕ) : Type 0 where
-  pub accepted : number_of answer ≡ 0 → LineIn (answer_line job answer ++ variable_lines table class) row r after
-  pub refused : (number_of answer ≡ 0 → ⊥) → LineIn (answer_line job answer) row r after
+-- the same, and after an accepted job the lines of its variables, by the class entries after the match
+abbrev pub answer_lines : ℕ → Matched → List ℕ → List ℕ → List ℕ
+answer_lines job (Ok counts) table class = answer_line job (Ok counts) ++ variable_lines table class
+answer_lines job (Err refusal) table class = answer_line job (Err refusal)
 
 -- rows for the job, for a match of it in buffers with room for every table, and for its lines
 pub record RowsForListing (file : List ℕ) (job : ℕ) (table list class work row : List ℕ) : Type 0 where

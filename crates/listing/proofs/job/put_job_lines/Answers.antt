@@ -7,19 +7,19 @@ use borrow.Author.Rules.{rules}
 use Rattle.listing.proofs.job.put_job_lines.Goals as goal
 
 pub overflow_mul-entries : goal.overflow_mul-entries
-overflow_mul-entries c = omega (arith, (job_fits c.requires.0).1, c.requires.2)
+overflow_mul-entries c = omega (arith, (job_fits c.args.job.is_there.there).1, c.args.job.is_there.pairs)
 
 pub slice_bounds-table-end : goal.slice_bounds-table-end
-slice_bounds-table-end c = omega (arith, (job_fits c.requires.0).0, c.requires.1)
+slice_bounds-table-end c = omega (arith, (job_fits c.args.job.is_there.there).0, c.args.job.is_there.words)
 
 pub slice_bounds-match_job-end : goal.slice_bounds-match_job-end
-slice_bounds-match_job-end c = sym (length-take-le _ _ (omega (arith, (job_fits c.requires.0).0, c.requires.1)))
+slice_bounds-match_job-end c = sym (length-take-le _ _ (omega (arith, (job_fits c.args.job.is_there.there).0, c.args.job.is_there.words)))
 
 pub slice_bounds-list-end : goal.slice_bounds-list-end
-slice_bounds-list-end c = omega (arith, (job_fits c.requires.0).1, c.requires.2)
+slice_bounds-list-end c = omega (arith, (job_fits c.args.job.is_there.there).1, c.args.job.is_there.pairs)
 
 pub slice_bounds-match_job-end-2 : goal.slice_bounds-match_job-end-2
-slice_bounds-match_job-end-2 c = sym (length-take-le _ _ (omega (arith, (job_fits c.requires.0).1, c.requires.2)))
+slice_bounds-match_job-end-2 c = sym (length-take-le _ _ (omega (arith, (job_fits c.args.job.is_there.there).1, c.args.job.is_there.pairs)))
 
 pub match_job-requires : goal.match_job-requires
-match_job-requires c = rows_for_job _ _ c.requires.0 c.requires.1 c.requires.2 refl (omega (arith, (job_fits c.requires.0).0, c.requires.1)) (omega (arith, (job_fits c.requires.0).1, c.requires.2)) (search rules) (search rules) c.requires.3
+match_job-requires c = rows_for_job _ _ c.args.job.is_there.there c.args.job.is_there.words c.args.job.is_there.pairs refl (omega (arith, (job_fits c.args.job.is_there.there).0, c.args.job.is_there.words)) (omega (arith, (job_fits c.args.job.is_there.there).1, c.args.job.is_there.pairs)) (search rules) (search rules) c.requires

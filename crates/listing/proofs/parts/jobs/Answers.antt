@@ -3,4 +3,4 @@ use Rattle.listing.proofs.PartLaws.{jobs_told}
 use Rattle.listing.proofs.parts.jobs.Goals as goal
 
 pub returns : goal.returns
-returns c = jobs_told c.read-read.ensures
+returns c = jobs_told _ c.read.ensures
