@@ -104,7 +104,7 @@ pub(crate) fn begin_chains(table: &[u32], work: &mut [u16])
     requires { (length table.now ≤ most_words) × (4 * length table.now ≤ length work.old) × (word_at table.now 0 ≡ 0) }
     ensures { ChainedOn table.now work.old work.new 1 }
 {
-    rows::clear16(work, STARTS_A_WORD * table.len());
+    work[..STARTS_A_WORD * table.len()].fill(0);
 }
 
 // The lowest address of a variable whose name stood earlier. The first 4n entries of the work row are

@@ -80,8 +80,8 @@ pub fn reaches_itself(table: &[u32], class: &[u16], work: &mut [u16]) -> bool
     requires { Searchable table.now class.now × (2 * length table.now ≤ length work.old) }
     ensures { Searched table.now class.now work.old result work.new }
 {
-    rows::clear16(work, table.len()); // old marks never count; the path is written before it is read
+    work[..table.len()].fill(0); // old marks never count; the path is written before it is read
     let found = from_each(table, class, work);
-    rows::clear16(work, 2 * table.len()); // and none are left
+    work[..2 * table.len()].fill(0); // and none are left
     found
 }

@@ -1,6 +1,6 @@
 -- The jobs of a job file: each a table's words and a list's pairs. The sentences quoted are document 01's, "The job file".
 -- Assumes nothing.
-use Rattle.std.specs.Prelude.{◌≡◌, List, [], ◌∷◌, ◌++◌, ℕ, ◌-◌, ◌*◌, ◌^◌, ◌≤◌, length, take, drop}
+use Rattle.std.specs.Prelude.{◌≡◌, List, [], ◌∷◌, ◌++◌, ℕ, ◌-◌, ◌*◌, ◌^◌, ◌≤◌, ◌<◌, length, take, drop}
 use Rattle.std.proofs.Props.{props}
 use Rattle.words.specs.Limits.{most_bytes, most_jobs}
 use Rattle.graphs.specs.Partition.{Pair, pairs_of}
@@ -90,6 +90,8 @@ pub record JobWith (bytes : List ℕ) (job n p : ℕ) : Type 0 where
   pub there : JobThere bytes job
   pub words : n ≡ words_of bytes job
   pub pairs : p ≡ pairs_in bytes (entry_of job)
+  -- a number of 16 bits
+  pub few_pairs : p < 65536
 
 -- There is one way at most for that to be so.
 pub job_with_is_one : (bytes : List ℕ) (job n p : ℕ) → IsProp (JobWith bytes job n p)

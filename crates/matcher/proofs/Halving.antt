@@ -184,14 +184,13 @@ module _ {t list class work class_mid work_mid : List ℕ} {joined : Result (Uni
         }
 
     -- so it is what the join has come to
-    pub joined_fails : (answer : Result (Unit {0}) Refusal) → MatchResult joined (λ done. answer ≡ Ok done) (λ at. IsErrAnd answer (λ refusal. refusal ≡ Refusal.Clash at))
-        → FirstFailed t list class work answer class_mid work_search
-    joined_fails answer m = go joined refl m
+    pub joined_fails : {Made : PairNumber → Refusal → Type 0} (answer : Result (Unit {0}) Refusal) → MatchResult joined (λ done. answer ≡ Ok done) (λ at. IsErrAnd answer (Made at))
+        → ((at : PairNumber) (refusal : Refusal) → Made at refusal → refusal ≡ Refusal.Clash at) → FirstFailed t list class work answer class_mid work_search
+    joined_fails {Made} answer cases is_clash = go joined refl cases
       where
-        go : (j : Result (Unit {0}) PairNumber) → joined ≡ j → MatchResult j (λ done. answer ≡ Ok done) (λ at. IsErrAnd answer (λ refusal. refusal ≡ Refusal.Clash at))
-            → FirstFailed t list class work answer class_mid work_search
+        go : (j : Result (Unit {0}) PairNumber) → joined ≡ j → MatchResult j (λ done. answer ≡ Ok done) (λ at. IsErrAnd answer (Made at)) → FirstFailed t list class work answer class_mid work_search
         go (Ok done) e q = rw q (nothing_fails e)
-        go (Err at) e q = let p = err_from_is_err_and answer q in rw (p.1, p.2) (clash_fails e)
+        go (Err at) e q = let p = err_from_is_err_and answer q in rw (p.1, is_clash at p.0 p.2) (clash_fails e)
 
 -- ---- the answers
 

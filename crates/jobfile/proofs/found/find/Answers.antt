@@ -26,5 +26,6 @@ invariant_of-result c = record {
     there = record { good = judged_good c.in_ok-judge.ensures; some_job = omega arith; inside = omega (arith, c.number-jobs.ensures.0) };
     words = c.number-words.ensures.0;
     pairs = c.number-pairs.ensures.0;
+    few_pairs = c.number-pairs.ensures.1;
   };
 }

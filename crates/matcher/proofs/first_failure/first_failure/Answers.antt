@@ -1,5 +1,7 @@
 -- `matcher::first_failure::first_failure` meets its contract.
 -- Assumes nothing.
+use borrow.Author.Rules.{rules}
+use Rattle.std.proofs.Common.{tests}
 use Rattle.matcher.proofs.FirstPairs.{standing_after}
 use Rattle.matcher.proofs.Halving.{row_searchable, unclashed_all, unclashed_before, cycle_found, cycle_fails, joined_fails}
 use Rattle.matcher.proofs.first_failure.first_failure.Goals as goal
@@ -29,4 +31,4 @@ returns-then-reaches_itself c =
     c.first_cycle.ensures
 
 pub returns : goal.returns
-returns c = joined_fails c.requires c.join_until_clash-joined.ensures c.if-reaches_itself.ensures _ c.map_err.ensures.cases
+returns c = joined_fails c.requires c.join_until_clash-joined.ensures c.if-reaches_itself.ensures _ c.map_err.ensures.cases (λ at refusal made. search (rules, tests))
