@@ -1,13 +1,11 @@
 // A file read and written again, or the line of its refusal.
 ghost use Rattle.std.specs.Prelude.{◌≤◌, length};
 ghost use Rattle.words.specs.Limits.{most_bytes};
-ghost use Rattle.jobfile.specs.Reader.{fault_number, fault_place};
-ghost use Rattle.lines.specs.Lines.{file_line, line_room, LineIn, TextIn, Counts};
+ghost use Rattle.lines.specs.Lines.{TextIn, Counts};
 ghost use Rattle.again.specs.Again.{AgainOf};
 ghost use Rattle.again.specs.Steps.Rewriting.{Rewritten};
 
 use jobfile::answers::FileFault;
-use lines::LINE_ROOM;
 use words::limits::MOST_BYTES;
 
 // Reads a file and writes what it yields into room. A good file is in front of room then; a refusal writes nothing.
@@ -21,17 +19,6 @@ fn rewrite(file: &[u8], room: &mut [u8]) -> Result<(), FileFault>
     Ok(())
 }
 
-// Puts the line of a refused file over the front of room, and returns its length.
-fn put_refusal(fault: FileFault, room: &mut [u8]) -> usize
-    requires { most_bytes ≤ length room.old }
-    ensures { LineIn (file_line (fault_number fault) (fault_place fault)) room.old result room.new × (result ≤ line_room) }
-{
-    let mut line = [0u8; LINE_ROOM];
-    let size = lines::file_line(fault, &mut line);
-    room[..size].copy_from_slice(&line[..size]);
-    size
-}
-
 // Puts what is written for a file over the front of room, and returns how many bytes that is. The bytes after them stay.
 pub(crate) fn again(file: &[u8], room: &mut [u8; MOST_BYTES]) -> usize
     ensures counts { Counts result room.new }
@@ -39,6 +26,6 @@ pub(crate) fn again(file: &[u8], room: &mut [u8; MOST_BYTES]) -> usize
 {
     match rewrite(file, room) {
         Ok(()) => file.len(),
-        Err(fault) => put_refusal(fault, room),
+        Err(fault) => lines::file_line(fault, room.first_chunk_mut().unwrap()),
     }
 }

@@ -5,7 +5,7 @@
 --                       bodies_wrong, bodies_past, bodies_follow, bodies_good: how it ends
 --     the whole         judged_file, judged_contents, judged_bodies
 --     one answer        read_once, answered_once, fault_refuses, judged_only, read_only, bodies_only
---     a good file       body_inside, good_judged, judged_good, passed_good, good_number
+--     a good file       body_inside, good_judged, judged_good, good_number
 -- Assumes nothing.
 use mathlib.Core.Path.{◌≡◌, refl, sym, ap, ap₂, ◌∙◌, subst}
 use mathlib.Core.HLevel.{is_prop→PathP}
@@ -261,10 +261,6 @@ module _ {bytes : List ℕ} where
   judged_good judged =
       let rows = (passed_none file_number (ReadFault bytes) read_order 0 0 refl refl judged).0 in
       all_good (not_contents (not_file rows.0) rows.1.0) (λ p lowest. rows.1.1.0 p (body_fault lowest))
-
--- an answer that is 0
-pub passed_good : {bytes : List ℕ} (r : FileAnswer) → Judged bytes r → r ≡ Ok tt → GoodFile bytes
-passed_good {bytes} r judged p = judged_good (subst (Judged bytes) p judged)
 
 -- an answer of number 0
 pub good_number : (r : FileAnswer) → number_of r ≡ 0 → r ≡ Ok tt

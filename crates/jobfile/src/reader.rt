@@ -10,6 +10,8 @@ use crate::sizes::Sizes;
 use words::limits::MOST_SIZES;
 
 // What the reader yields beside the part of the file that the bodies are.
+//
+// Kept: the sizes beside the answer, since document 01 says what a refusal yields too: "an empty row".
 #[derive(Clone, Copy)]
 pub struct FileRead {
     pub answer: Result<(), FileFault>,

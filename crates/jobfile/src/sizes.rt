@@ -5,6 +5,8 @@ ghost use Rattle.words.specs.Limits.{most_sizes};
 use words::limits::MOST_SIZES;
 
 // n and p of each job, in order: `count` numbers. Unused places are 0.
+//
+// Kept: a row with its length beside it, since the row is "by value, at most 128 numbers, unused places 0"; `as_slice` cuts it.
 #[derive(Clone, Copy)]
 pub struct Sizes {
     pub row: [u16; MOST_SIZES],

@@ -2,15 +2,15 @@
 --     one part after another      field-placed, line_word, line_first, line_more: what stores and copies leave
 --     a front lent on             line_counts
 --     read back                   job_line_read, variable_line_read, file_line_read: a line tells its numbers; decimal_tells
---     what was put                line_written, copied_front, text_written
+--     what was put                line_written, copied_front, line_lent, text_written
 --     one result                  line_only, text_only
 -- Assumes nothing.
 use mathlib.Core.Path.{◌≡◌, refl, sym, ap, ap₂, ◌∙◌, subst}
 use mathlib.Core.List.{List, [], ◌∷◌, ◌++◌, append_assoc, append-nil}
 use Prim.Native.Nat.{ℕ, suc, ◌+◌, ◌≤◌, ◌<◌}
 use native.Mathlib.Omega.{arith}
-use lib.ListN.{length, take, drop, get_or, set, length-append}
-use lib.Seq.{drop-cons, take_at, set_at, append_snoc, length-take-le}
+use lib.ListN.{length, take, drop, get_or, set, length-append, take-append-drop}
+use lib.Seq.{drop-cons, take_at, set_at, append_snoc, length-take-le, drop-append-le}
 use Rattle.rows.specs.Placed.{placed}
 use Rattle.rows.proofs.Laws.{copied_front as front_copied, behind_stays}
 use Rattle.lines.specs.Decimal.{decimal, numbers_from, numbers_in}
@@ -118,6 +118,20 @@ line_written {line} {row} {r = r} l = ap (take r) l.there ∙ take_at line (drop
 -- .. also where it was copied to the front of another row ..
 pub copied_front : {line row₀ after₀ copied : List ℕ} (row : List ℕ) {r : ℕ} → LineIn line row₀ r after₀ → copied ≡ take r after₀ → LineIn line row r (copied ++ drop r row)
 copied_front {line} {copied = copied} row {r} l e = record { long = l.long; there = front_copied r line row copied l.long (e ∙ line_written l) }
+
+-- .. also where it was put into the front of another row, that was lent ..
+pub line_lent : {line front part : List ℕ} {n r : ℕ} (row : List ℕ) → LineIn line front r part → front ≡ take n row → n ≤ length row → r ≤ n → LineIn line row r (part ++ drop n row)
+line_lent {line} {front} {part} {n} {r} row l lent inside short =
+    let size : length (take n row) ≡ n = length-take-le n row inside in
+    let rest : drop (length line) (take n row) ++ drop n row ≡ drop (length line) row =
+    sym (drop-append-le (length line) (take n row) (drop n row) (omega (arith, l.long))) ∙ ap (drop (length line)) (take-append-drop n row) in
+    record {
+      long = l.long;
+      there =
+          ap (λ (x : List ℕ). x ++ drop n row) (l.there ∙ ap (λ (x : List ℕ). line ++ drop (length line) x) lent)
+          ∙ append_assoc line (drop (length line) (take n row)) (drop n row)
+          ∙ ap (λ (x : List ℕ). line ++ x) rest;
+    }
 
 -- .. and so is such text
 pub text_written : {Text : List ℕ → Type 0} {row after : List ℕ} {r : ℕ} → TextIn Text row r after → Text (take r after)

@@ -2,6 +2,9 @@
 //
 // Each function of a line puts it over the front of a lent row, in which the longest line has room, and returns its length.
 // The bytes after it stay. No function asks anything of its caller.
+//
+// Kept: the length, and not the line itself, is returned, since no clause can say of a row what stays in it while a result borrows
+// from it.
 #![tactic(auto)]
 
 mod fields;

@@ -1,6 +1,10 @@
 -- `again::written::again` meets its contract. Assumes nothing.
+use mathlib.Core.Path.{◌≡◌}
 use native.Mathlib.Omega.{arith}
-use Rattle.lines.proofs.LineLaws.{line_counts}
+use borrow.Author.Rules.{rules}
+use lib.ListN.{take}
+use Rattle.lines.specs.Lines.{line_room}
+use Rattle.lines.proofs.LineLaws.{line_counts, line_lent}
 use Rattle.again.proofs.AgainLaws.{put_again, put_refused}
 use Rattle.again.proofs.written.again.Goals as goal
 
@@ -11,4 +15,5 @@ pub returns-in-Ok-clause-text_in : goal.returns-in-Ok-clause-text_in
 returns-in-Ok-clause-text_in c = (put_again c.in-Ok.ensures).1
 
 pub returns-in-Err-clause-text_in : goal.returns-in-Err-clause-text_in
-returns-in-Err-clause-text_in c = put_refused c.in-Err.fault c.in-Err.ensures c.put_refusal.ensures.0
+returns-in-Err-clause-text_in c = let lent : c.unwrap.result.now ≡ take line_room c.rewrite.new.room = search rules in
+    put_refused c.in-Err.fault c.in-Err.ensures (line_lent {n = line_room} c.rewrite.new.room c.file_line.ensures.line_in lent (omega arith) c.file_line.ensures.upper_bound)
