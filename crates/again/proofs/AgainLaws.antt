@@ -1,64 +1,60 @@
--- A file that was read and written (`read_written`); what is put into the room (`put_again`, `put_refused`); one result
--- (`again_only`). Assumes nothing.
-use mathlib.Core.Path.{◌≡◌, refl, ap, ap₂, ◌∙◌, subst}
-use mathlib.Core.Logic.{inl, inr}
-use mathlib.Core.List.{List, []}
+-- A file that was read, and written or refused (`read_written`, `read_refused`); what is put into the room (`put_again`,
+-- `put_refused`); one result (`again_only`). Assumes nothing.
+use mathlib.Core.Path.{◌≡◌, refl, ap₂, subst}
+use mathlib.Core.List.{List}
 use Prim.Native.Nat.{ℕ, ◌≤◌}
 use native.Mathlib.Omega.{arith}
 use lib.ListN.{length, take}
+use Rattle.std.specs.Prelude.{Ok, Err}
 use Rattle.rows.specs.LittleEndian.{AllBytes}
 use Rattle.words.specs.Limits.{most_bytes}
 use Rattle.jobfile.specs.File.{GoodFile}
-use Rattle.jobfile.specs.Reader.{number_of, place_of, Judged, yielded_sizes, ReadOf, BodiesOf}
-use Rattle.jobfile.specs.Writer.{WriteOf}
-use Rattle.jobfile.specs.declared.answers.FileAnswer.{FileAnswer}
-use Rattle.jobfile.specs.declared.answers.FileAnswer.TheVariants.{Good, File, Contents, Body}
-use Rattle.jobfile.specs.declared.answers.WriteAnswer.{WriteAnswer}
+use Rattle.jobfile.specs.Reader.{FileAnswer, fault_number, fault_place, Judged, ReadOf, BodiesOf}
+use Rattle.jobfile.specs.Writer.{WriteAnswer, WriteOf}
+use Rattle.jobfile.specs.declared.answers.FileFault.{FileFault}
+use Rattle.jobfile.specs.declared.answers.FileFault.TheVariants.{File, Contents, Body}
 use Rattle.jobfile.specs.declared.sizes.Sizes.{Sizes}
-use Rattle.jobfile.proofs.ReaderLaws.{answered_once, judged_good, good_judged, good_number}
-use Rattle.jobfile.proofs.WriteAnswers.{write_contents, write_only}
-use Rattle.jobfile.proofs.Theorems.{reader_accepts_good, read_sizes, good_read_written_again}
+use Rattle.jobfile.proofs.ReaderLaws.{answered_once, judged_good, good_judged}
+use Rattle.jobfile.proofs.Theorems.{reader_accepts_good, good_read_written_again}
 use Rattle.lines.specs.Lines.{file_line, LineIn, TextIn}
 use Rattle.again.specs.Again.{AgainOf, same_bytes, refusal}
 use Rattle.again.specs.Steps.Rewriting.{room_again, Rewritten}
 
--- the writer refuses an empty row of sizes
-nothing_written : {sizes bodies room after : List ℕ} {w : WriteAnswer} → sizes ≡ [] → WriteOf sizes bodies room w after → after ≡ room
-nothing_written {sizes} {bodies} {room} {after} {w} e r =
-    (write_only (subst (λ (l : List ℕ). WriteOf l bodies room w after) e r) (write_contents [] bodies room (inr (inl refl)))).1
-
+-- a file that was read is judged by what was read of it, and written where that is good
 pub read_written : {file part room after : List ℕ} {answer : FileAnswer} {sizes : Sizes} {w : WriteAnswer} → AllBytes file → most_bytes ≤ length room
-    → ReadOf file answer sizes → BodiesOf file part → WriteOf (take sizes.count sizes.row) part room w after → Rewritten file room answer after
+    → ReadOf file answer sizes → answer ≡ Ok tt → BodiesOf file part → WriteOf (take sizes.count sizes.row) part room w after → Rewritten file room (Ok tt) after
 unfolding room_again
-read_written {file} {part} {room} {after} {answer} {sizes} {w} all enough r b written = record { judged = r.judged; same = go answer r (read_sizes r) }
-  where
-    go : (q : FileAnswer) → ReadOf file q sizes → take sizes.count sizes.row ≡ yielded_sizes q file → after ≡ room_again q file room
-    go Good read e = let good : GoodFile file = (reader_accepts_good read).0 refl in (good_read_written_again all good read b (omega (arith, good.at_most)) written).1
-    go File read e = nothing_written e written
-    go Contents read e = nothing_written e written
-    go (Body entry) read e = nothing_written e written
+read_written {file} {part} {room} {after} {answer} {sizes} {w} all enough r is b written =
+    let good : GoodFile file = (reader_accepts_good r).0 is in
+    record { judged = subst (Judged file) is r.judged; same = (good_read_written_again all good r b (omega (arith, good.at_most)) written).1 }
+
+pub read_refused : {file room : List ℕ} {answer : FileAnswer} {sizes : Sizes} {fault : FileFault} → ReadOf file answer sizes → answer ≡ Err fault → Rewritten file room (Err fault) room
+unfolding room_again
+read_refused {file} r is = record { judged = subst (Judged file) is r.judged; same = refl }
 
 -- ---- what is put into the room
 
 module _ {file room after : List ℕ} where
-  pub put_again : (answer : FileAnswer) → Rewritten file room answer after → number_of answer ≡ 0 → (length file ≤ most_bytes) × TextIn (AgainOf file) room (length file) after
+  pub put_again : Rewritten file room (Ok tt) after → (length file ≤ most_bytes) × TextIn (AgainOf file) room (length file) after
   unfolding room_again
-  put_again answer w z =
-      let is : answer ≡ Good = good_number answer z in
-      let good : GoodFile file = judged_good (subst (Judged file) is w.judged) in
-      (good.at_most, record { text = file; is = same_bytes good; there = record { long = refl; there = w.same ∙ ap (λ (q : FileAnswer). room_again q file room) is } })
+  put_again w =
+      let good : GoodFile file = judged_good w.judged in
+      (good.at_most, record { text = file; is = same_bytes good; there = record { long = refl; there = w.same } })
 
-  pub put_refused : {before : List ℕ} {r : ℕ} (answer : FileAnswer) → Rewritten file room answer before → (number_of answer ≡ 0 → ⊥) → LineIn (file_line (number_of answer) (place_of answer)) before r after
+  pub put_refused : {before : List ℕ} {r : ℕ} (fault : FileFault) → Rewritten file room (Err fault) before → LineIn (file_line (fault_number fault) (fault_place fault)) before r after
       → TextIn (AgainOf file) room r after
   unfolding room_again
-  put_refused {r = r} answer w other line =
-      record { text = file_line (number_of answer) (place_of answer); is = refusal w.judged other; there = subst (λ (row : List ℕ). LineIn (file_line (number_of answer) (place_of answer)) row r after) (w.same ∙ untouched answer other) line }
+  put_refused {r = r} fault w line =
+      record {
+        text = file_line (fault_number fault) (fault_place fault);
+        is = refusal w.judged (refused fault);
+        there = subst (λ (row : List ℕ). LineIn (file_line (fault_number fault) (fault_place fault)) row r after) w.same line;
+      }
     where
-      untouched : (q : FileAnswer) → (number_of q ≡ 0 → ⊥) → room_again q file room ≡ room
-      untouched Good different = absurd (different refl)
-      untouched File different = refl
-      untouched Contents different = refl
-      untouched (Body entry) different = refl
+      refused : (f : FileFault) → fault_number f ≡ 0 → ⊥
+      refused File z = omega arith
+      refused Contents z = omega arith
+      refused (Body entry) z = omega arith
 
 -- ---- one result
 

@@ -6,41 +6,26 @@
 
 mod written;
 
-ghost use Rattle.std.specs.Prelude.{◌≤◌, length};
-
-use std::io::Read;
+use std::io;
 use std::process::ExitCode;
 use words::limits::MOST_BYTES;
 
-// Reads standard input into the row until it is full, the input ends or a read fails, and returns how many bytes were read.
-fn read_input(rt: &HostRuntime, file: &mut [u8]) -> usize
-    ensures { result ≤ length file.new }
-{
-    let mut input = rt.stdin();
-    let mut size = 0;
-    while size < file.len() {
-        match input.read(&mut file[size..]) {
-            Ok(0) | Err(_) => return size,
-            Ok(count) => size += count,
-        }
-    }
-    size
-}
-
-// Writes what is written for a file, and says whether all of it was.
-fn write_again(rt: &HostRuntime, file: &[u8]) -> bool {
+// Writes what is written for a file, all of it.
+fn write_again(rt: &HostRuntime, file: &[u8]) -> io::Result<()> {
     let mut room = [0u8; MOST_BYTES];
     let size = written::again(file, &mut room);
-    rt.write_all(&room[..size]).is_ok()
+    rt.write_all(&room[..size])
 }
 
 // A file has at most 32,768 bytes; one byte more is read, so that a longer one is refused and not cut short.
 fn main(rt: HostRuntime) -> ExitCode {
     let mut file = [0u8; MOST_BYTES + 1];
-    let size = read_input(&rt, &mut file);
-    if write_again(&rt, &file[..size]) {
-        return ExitCode::SUCCESS;
+    let size = lines::read_to_fill(&mut rt.stdin(), &mut file);
+    match write_again(&rt, &file[..size]) {
+        Ok(()) => ExitCode::SUCCESS,
+        Err(_) => {
+            let _ = rt.eprint("again: the file was not written to its end\n");
+            ExitCode::FAILURE
+        }
     }
-    let _ = rt.eprint("again: the file was not written to its end\n");
-    ExitCode::FAILURE
 }

@@ -1,11 +1,13 @@
--- The lowest number with a property, and the first that passes a test: there is one (`lowest_only`, `first_only`), the one is the
--- other (`first_lowest`), and where there is none nothing passes (`first_none`, `none_at_all`). Assumes nothing.
-use mathlib.Core.Path.{◌≡◌, sym, ◌∙◌}
+-- The lowest number with a property, and the first that passes a test: there is one (`lowest_only`, `first_only`, `found_only`), the one
+-- is the other (`first_lowest`, `found_lowest`), and where there is none nothing passes (`first_none`, `found_none`, `none_at_all`).
+-- Assumes nothing.
+use mathlib.Core.Path.{◌≡◌, refl, sym, ap, ◌∙◌}
 use mathlib.Core.Bool.{Bool, true, true≢false}
 use Prim.Native.Nat.{ℕ, zero, suc, ◌≤◌, ◌<◌}
 use native.Mathlib.Decide.{dec_lt}
 use native.Mathlib.Omega.{arith}
-use Rattle.answering.specs.Answers.{Lowest, First}
+use Rattle.std.specs.Prelude.{Option, None, Some}
+use Rattle.answering.specs.Answers.{Lowest, First, Found}
 
 -- two numbers, neither of which is below the other
 pub neither_below : {j k : ℕ} → (j < k → ⊥) → (k < j → ⊥) → j ≡ k
@@ -38,3 +40,16 @@ module _ {test : ℕ → Bool} {n : ℕ} where
 
   pub first_none : {r : ℕ} → First test n r → n ≤ r → (b : ℕ) → (b < n) × (test b ≡ true) → ⊥
   first_none f h b (l, t) = before_fails f (omega arith) t
+
+  pub found_lowest : {r : ℕ} → Found test n (Some r) → Lowest (λ b. (b < n) × (test b ≡ true)) r
+  found_lowest (inside, passes, before) =
+      record { has = (inside, passes); none_below = λ j l p. true≢false (sym p.1 ∙ before j l) }
+
+  pub found_none : Found test n None → (b : ℕ) → (b < n) × (test b ≡ true) → ⊥
+  found_none none b (l, t) = true≢false (sym t ∙ none b l)
+
+pub found_only : (test : ℕ → Bool) (n : ℕ) (r s : Option ℕ) → Found test n r → Found test n s → r ≡ s
+found_only test n (Some j) (Some k) f g = ap Some (lowest_only (found_lowest f) (found_lowest g))
+found_only test n (Some j) None f g = absurd (found_none g j (f.0, f.1))
+found_only test n None (Some k) f g = absurd (found_none f k (g.0, g.1))
+found_only test n None None f g = refl

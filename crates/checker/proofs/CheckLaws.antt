@@ -22,27 +22,22 @@ use Rattle.answering.proofs.BufferLaws.{later_rows, left-zeroed}
 use Rattle.table.specs.Faults.{sent, Row, Repeats, SIZE, ROOM, NAME, LOOP, number, Fault, size_fault, room_fault, name_fault, loop_fault, shape_rows, table_rows}
 use Rattle.table.specs.Readable.{Readable}
 use Rattle.table.proofs.PassedCheck.{no_fault_readable}
-use Rattle.std.specs.Prelude.{Ok, Err}
+use Rattle.std.specs.Prelude.{Some, Ok, Err}
 use Rattle.checker.specs.Check.{Checked, number_of, place_of, checked_job, CheckOf}
 use Rattle.checker.specs.Steps.Names.{RestStays, FirstRepeated}
 use Rattle.checker.specs.Steps.Sound.{SoundTable}
 use Rattle.checker.specs.Steps.Stage.{ByRows, SizeAndRoom, Stage}
 use Rattle.checker.proofs.LoopLaws.{Loops, LoopSearch}
-use Rattle.checker.proofs.NameLaws.{repeats_inside}
 use Rattle.checker.proofs.Stages.{readable_accepted}
 
 -- ---- names and loops
 
-module _ {t before after : List ℕ} {found : ℕ} (scan : FirstRepeated t before after found) where
-  pub name_stage : {class : List ℕ} → found < length t → Stage (NAME ∷ LOOP ∷ []) t class before (Err (Name (record { 0 = found }))) class after
-  unfolding number
-  name_stage h = record {
-    answered = λ list c w. inl (refl, name_fault (record { has = scan.repeats h; none_below = scan.none_before }));
-    kept = record { class_kept = refl; work_kept = scan.stays.rest };
-  }
-
-  pub none_repeats : length t ≤ found → (a : ℕ) → Repeats t a → ⊥
-  none_repeats h a r = scan.none_before a (omega (arith, repeats_inside r)) r
+pub name_stage : {t class before after : List ℕ} {a : ℕ} → FirstRepeated t before after (Some a) → Stage (NAME ∷ LOOP ∷ []) t class before (Err (Name (record { 0 = a }))) class after
+unfolding number
+name_stage scan = record {
+  answered = λ list c w. inl (refl, name_fault scan.lowest);
+  kept = record { class_kept = refl; work_kept = scan.stays.rest };
+}
 
 module _ {t class work class_after work_after : List ℕ} where
   -- the answer by row 7

@@ -16,6 +16,7 @@ use native.Mathlib.Omega.{arith}
 use lib.ListN.{length, get_or, set, drop, length-set, length-append, length-replicate, length-drop}
 use lib.Seq.{get_or-set_same, get_or-set_other, drop-set-lt}
 use borrow.Author.Count.{below_more}
+use Rattle.std.specs.Prelude.{None, Some}
 use Rattle.rows.specs.Placed.{zeroed}
 use Rattle.rows.proofs.Laws.{behind_cleared, cleared_zero}
 use Rattle.words.specs.Limits.{most_words}
@@ -173,18 +174,14 @@ none_more {t} {entry} {work} {exit} {a} s h j e =
     }
 
 module _ {t entry cleared work : List ℕ} {a : ℕ} (c : RestStays t entry cleared) (s : NoneYet t cleared work a) where
-  pub answer_here : {exit : List ℕ} {b : Bool} → NameJudged t work exit a b → b ≡ true → FirstRepeated t entry exit a
+  pub answer_here : {exit : List ℕ} {b : Bool} → NameJudged t work exit a b → b ≡ true → FirstRepeated t entry exit (Some a)
   answer_here {exit} {b} j e = record {
-    within = s.within;
-    none_before = s.none_before;
-    repeats = λ h. let d : NameJudged t work exit a true = subst (λ c. NameJudged t work exit a c) e j in d.verdict;
+    lowest = let d : NameJudged t work exit a true = subst (λ c. NameJudged t work exit a c) e j in record { has = d.verdict; none_below = s.none_before };
     stays = stays_on c (stays_on s.row.stays (judged_stays b j));
   }
 
-  pub answer_nowhere : length t ≤ a → FirstRepeated t entry work a
+  pub answer_nowhere : length t ≤ a → FirstRepeated t entry work None
   answer_nowhere h = record {
-    within = s.within;
-    none_before = s.none_before;
-    repeats = λ k. absurd (omega arith);
+    lowest = λ j r. s.none_before j (omega (arith, repeats_inside r)) r;
     stays = stays_on c s.row.stays;
   }

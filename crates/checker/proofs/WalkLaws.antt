@@ -11,6 +11,7 @@ use Prim.Native.Nat.{ℕ, ◌+◌, ◌-◌, ◌≤◌, ◌<◌}
 use native.Mathlib.Omega.{arith}
 use borrow.Author.Tests.{not-true}
 use lib.ListN.{length}
+use Rattle.std.specs.Prelude.{Option, None, Some}
 use Rattle.words.specs.Word.{argument_kinds, is_one_of}
 use Rattle.words.specs.declared.kind.Kind.TheVariants.{Variable, Constant, Pointer}
 use Rattle.words.proofs.KindLaws.{not_both}
@@ -88,37 +89,38 @@ module _ {t entry work : List ℕ} {from to a : ℕ} (y : ArgumentsYet t entry w
 
 -- ---- the address after an item
 
-pub nowhere : {t entry exit : List ℕ} {here : Wanted} {a : ℕ} → RestStays t entry exit → NextItem t entry exit here a 0
-nowhere s = record { stays = s; goes_on = λ stopped. absurd (stopped refl) }
+pub nowhere : {t entry exit : List ℕ} {here : Wanted} {a : ℕ} → RestStays t entry exit → NextItem t entry exit here a None
+nowhere s = record { stays = s; goes_on = tt }
 
 module _ (t : List ℕ) (a : ℕ) (later : 0 < a) (inside : a < length t) where
-  pub next_variable : {entry exit : List ℕ} (repeated : Bool) → kind_at t a ≡ Variable → NameJudged t entry exit a repeated → repeated ≡ false → NextItem t entry exit item a (a + 1)
+  pub next_variable : {entry exit : List ℕ} (repeated : Bool) → kind_at t a ≡ Variable → NameJudged t entry exit a repeated → repeated ≡ false → NextItem t entry exit item a (Some (a + 1))
   next_variable repeated e j new = record {
     stays = judged_stays repeated j;
-    goes_on = λ goes. (omega arith, variable_item t a later inside e (new_name j new).0, (new_name j new).1);
+    goes_on = record { further = omega arith; walked = variable_item t a later inside e (new_name j new).0; chained = (new_name j new).1 };
   }
 
-  pub next_constant : {work : List ℕ} → Chained t work a → kind_at t a ≡ Constant → NextItem t work work item a (a + 1)
+  pub next_constant : {work : List ℕ} → Chained t work a → kind_at t a ≡ Constant → NextItem t work work item a (Some (a + 1))
   next_constant {work} c e = record {
     stays = stays_same t work;
-    goes_on = λ goes. (omega arith, constant_item t a later inside e, chained_pass c (not_both e refl));
+    goes_on = record { further = omega arith; walked = constant_item t a later inside e; chained = chained_pass c (not_both e refl) };
   }
 
   pub next_arguments : {entry exit : List ℕ} {end : ℕ} {sound : Bool} → sound_count (word_at t a) ≡ true → end ≡ a + 1 + content_at t a
-      → AsArguments t entry exit (a + 1) end sound → sound ≡ true → NextItem t entry exit count a end
+      → AsArguments t entry exit (a + 1) end sound → sound ≡ true → NextItem t entry exit count a (Some end)
   next_arguments s e r all = record {
     stays = r.stays;
-    goes_on = λ goes. (omega arith, walked_block later inside s e (r.goes_on all).0, (r.goes_on all).1);
+    goes_on = record { further = omega arith; walked = walked_block later inside s e (r.goes_on all).0; chained = (r.goes_on all).1 };
   }
 
 -- a count is no variable
 pub count_chained : {t work : List ℕ} {a : ℕ} → Chained t work a → sound_count (word_at t a) ≡ true → Chained t work (a + 1)
 count_chained {t} {work} {a} c s = chained_pass c (not_both (sound_count_lem (word_at t a) s).0 refl)
 
-pub next_block : {t entry exit : List ℕ} {a next : ℕ} → Walked t item a count (a + 1) → NextItem t entry exit count (a + 1) next → NextItem t entry exit item a next
-next_block function block = record {
+pub next_block : {t entry exit : List ℕ} {a : ℕ} (next : Option ℕ) → Walked t item a count (a + 1) → NextItem t entry exit count (a + 1) next → NextItem t entry exit item a next
+next_block None function block = record { stays = block.stays; goes_on = tt }
+next_block (Some b) function block = record {
   stays = block.stays;
-  goes_on = λ goes. let b = block.goes_on goes in (omega (arith, b.0), walked_on function b.1, b.2);
+  goes_on = record { further = omega (arith, block.goes_on.further); walked = walked_on function block.goes_on.walked; chained = block.goes_on.chained };
 }
 
 -- ---- the table
@@ -136,11 +138,11 @@ pub unsound_table : {t entry exit : List ℕ} → RestStays t entry exit → Sou
 unsound_table s = record { stays = s; shows = λ e. absurd (true≢false (sym e)) }
 
 module _ {t entry work : List ℕ} {a : ℕ} (y : ItemsYet t entry work a) where
-  pub items_more : {exit : List ℕ} {next : ℕ} → NextItem t work exit item a next → (next ≡ 0 → ⊥) → ItemsYet t entry exit next
-  items_more n goes = record {
+  pub items_more : {exit : List ℕ} (next : ℕ) → NextItem t work exit item a (Some next) → ItemsYet t entry exit next
+  items_more next n = record {
     stays = stays_on y.stays n.stays;
-    walked = walked_on y.walked (n.goes_on goes).1;
-    chained = (n.goes_on goes).2;
+    walked = walked_on y.walked n.goes_on.walked;
+    chained = n.goes_on.chained;
   }
 
   pub sound_table : {before : List ℕ} → RestStays t before entry → word_at t 0 ≡ 0 → length t ≤ a → SoundTable t before work true

@@ -12,9 +12,8 @@ fn through_all_rows(table: &[u32], class: &mut [u16], work: &mut [u16]) -> Resul
     ensures { Stage table_rows table.now class.old work.old result class.new work.new }
 {
     shape_fault::row_by_row(table)?;
-    let name = name_fault::first_repeated_name(table, work);
-    if name < table.len() {
-        return Err(TableFault::Name(Address(name as u16)));
+    if let Some(at) = name_fault::first_repeated_name(table, work) {
+        return Err(TableFault::Name(Address(at as u16)));
     }
     loops::loops_alone(table, class, work)
 }

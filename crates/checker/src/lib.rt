@@ -38,7 +38,7 @@ pub fn check(table: &[u32], class: &mut [u16], work: &mut [u16]) -> Result<(), T
         return Err(TableFault::Room);
     }
     let answer = faults::faults(table, class, work);
-    rows::clear16(class, n);
-    rows::clear16(work, 4 * n);
+    class[..n].fill(0);
+    work[..4 * n].fill(0);
     answer
 }

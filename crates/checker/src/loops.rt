@@ -12,10 +12,8 @@ fn own_classes(class: &mut [u16], n: usize)
     requires { (n ≤ length class.old) × (n ≤ most_words) }
     ensures { class.new ≡ counting 0 n ++ drop n class.old }
 {
-    let mut x = 0;
-    while x < n {
+    for x in 0..n {
         class[x] = x as u16;
-        x += 1;
     }
 }
 

@@ -55,12 +55,12 @@ fn stood_earlier(table: &[u32], work: &[u16], at: usize) -> bool
 {
     let starts = STARTS_A_WORD * table.len();
     let label = label_at(table, at);
-    let mut earlier = rows::at(work, start(label, starts));
+    let mut earlier = work[start(label, starts)] as usize;
     while earlier != 0 {
-        if label_at(table, earlier).0 == label.0 {
+        if label_at(table, earlier) == label {
             return true;
         }
-        earlier = rows::at(work, starts + earlier);
+        earlier = work[starts + earlier] as usize;
     }
     false
 }
@@ -96,11 +96,7 @@ fn repeats_name(table: &[u32], work: &mut [u16], at: usize) -> bool
     requires { Chained table.now work.old at × (at < length table.now) }
     ensures { NameJudged table.now work.old work.new at result }
 {
-    if let Kind::Variable = word::kind(table[at]) {
-        repeats_variable(table, work, at)
-    } else {
-        false
-    }
+    word::kind(table[at]) == Kind::Variable && repeats_variable(table, work, at)
 }
 
 // Every chain becomes empty. A link is written before it is read, so only the beginnings are cleared.
@@ -108,22 +104,20 @@ pub(crate) fn begin_chains(table: &[u32], work: &mut [u16])
     requires { (length table.now ≤ most_words) × (4 * length table.now ≤ length work.old) × (word_at table.now 0 ≡ 0) }
     ensures { ChainedOn table.now work.old work.new 1 }
 {
-    rows::clear16(work, STARTS_A_WORD * table.len());
+    work[..STARTS_A_WORD * table.len()].fill(0);
 }
 
-// The lowest address of a variable whose name stood earlier, or the table's length where there is
-// none. The first 4n entries of the work row are written over, and nothing is said of them.
-pub(crate) fn first_repeated_name(table: &[u32], work: &mut [u16]) -> usize
+// The lowest address of a variable whose name stood earlier. The first 4n entries of the work row are
+// written over, and nothing is said of them.
+pub(crate) fn first_repeated_name(table: &[u32], work: &mut [u16]) -> Option<usize>
     requires { Readable table.now × (4 * length table.now ≤ length work.old) }
     ensures { FirstRepeated table.now work.old work.new result }
 {
     begin_chains(table, work);
-    let mut at = 1;
-    while at < table.len() {
+    for at in 1..table.len() {
         if repeats_name(table, work, at) {
-            return at;
+            return Some(at);
         }
-        at += 1;
     }
-    at
+    None
 }

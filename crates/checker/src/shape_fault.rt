@@ -5,7 +5,6 @@ ghost use Rattle.table.specs.Faults.{shape_rows};
 ghost use Rattle.checker.specs.Steps.Stage.{ByRows};
 
 use answering::fault::TableFault;
-use shape::layout_fault::RowOfItems;
 use shape::{layout_fault, pointer_fault, word_fault};
 use words::numbers::Address;
 
@@ -14,16 +13,14 @@ pub(crate) fn row_by_row(table: &[u32]) -> Result<(), TableFault>
     requires { length table.now ≤ most_words }
     ensures { ByRows shape_rows table.now result }
 {
-    let word = word_fault::first_bad_word(table);
-    if word < table.len() {
-        return Err(TableFault::Word(Address(word as u16)));
+    if let Some(at) = word_fault::first_bad_word(table) {
+        return Err(TableFault::Word(Address(at as u16)));
     }
-    if let RowOfItems::BreaksAt(at) = layout_fault::layout_break(table) {
+    if let Some(at) = layout_fault::layout_break(table) {
         return Err(TableFault::Layout(Address(at as u16)));
     }
-    let pointer = pointer_fault::first_bad_pointer(table);
-    if pointer < table.len() {
-        return Err(TableFault::Pointer(Address(pointer as u16)));
+    if let Some(at) = pointer_fault::first_bad_pointer(table) {
+        return Err(TableFault::Pointer(Address(at as u16)));
     }
     Ok(())
 }

@@ -11,17 +11,10 @@ use shape::{pointer_fault, word_fault};
 use words::kind::Kind;
 use words::word;
 
-// The walk cannot go on. No item stands at address 0.
-const NOWHERE: usize = 0;
-
 fn is_sound_count(word: u32) -> bool
     ensures { result ≡ sound_count word }
 {
-    if let Kind::Count = word::kind(word) {
-        !word_fault::is_bad_kind(Kind::Count, word::content(word))
-    } else {
-        false
-    }
+    word::kind(word) == Kind::Count && !word_fault::is_bad_kind(Kind::Count, word::content(word))
 }
 
 // Whether the word at an address is a variable that repeats no name, a constant, or a pointer to an
@@ -44,54 +37,50 @@ fn are_sound_arguments(table: &[u32], work: &mut [u16], from: usize, to: usize) 
     requires { Chained table.now work.old from × (0 < from) × (from ≤ to) × (to ≤ length table.now) }
     ensures { AsArguments table.now work.old work.new from to result }
 {
-    let mut at = from;
-    while at < to {
+    for at in from..to {
         if !is_sound_argument(table, work, at) {
             return false;
         }
-        at += 1;
     }
     true
 }
 
-// The address after the block whose count is to stand at an address.
-fn after_block(table: &[u32], work: &mut [u16], at: usize) -> usize
+// The address after the block whose count is to stand at an address, or none where the walk cannot go
+// on.
+fn after_block(table: &[u32], work: &mut [u16], at: usize) -> Option<usize>
     requires { Chained table.now work.old at × (0 < at) × (at ≤ length table.now) }
     ensures { NextItem table.now work.old work.new count at result }
 {
-    if table.len() <= at {
-        return NOWHERE;
-    }
-    let word = table[at];
+    let word = *table.get(at)?;
     if !is_sound_count(word) {
-        return NOWHERE;
+        return None;
     }
     let end = at + 1 + word::content(word) as usize;
     if table.len() < end {
-        return NOWHERE;
+        return None;
     }
     if !are_sound_arguments(table, work, at + 1, end) {
-        return NOWHERE;
+        return None;
     }
-    end
+    Some(end)
 }
 
-// The address after the item that is to stand at an address.
-fn after_item(table: &[u32], work: &mut [u16], at: usize) -> usize
+// The address after the item that is to stand at an address, or none where the walk cannot go on.
+fn after_item(table: &[u32], work: &mut [u16], at: usize) -> Option<usize>
     requires { Chained table.now work.old at × (0 < at) × (at < length table.now) }
     ensures { NextItem table.now work.old work.new item at result }
 {
     match word::kind(table[at]) {
         Kind::Variable => {
             if name_fault::repeats_variable(table, work, at) {
-                NOWHERE
+                None
             } else {
-                at + 1
+                Some(at + 1)
             }
         }
-        Kind::Constant => at + 1,
+        Kind::Constant => Some(at + 1),
         Kind::Function => after_block(table, work, at + 1),
-        _ => NOWHERE,
+        _ => None,
     }
 }
 
@@ -107,10 +96,10 @@ pub(crate) fn is_sound(table: &[u32], work: &mut [u16]) -> bool
     name_fault::begin_chains(table, work);
     let mut at = 1;
     while at < table.len() {
-        at = after_item(table, work, at);
-        if at == NOWHERE {
+        let Some(next) = after_item(table, work, at) else {
             return false;
-        }
+        };
+        at = next;
     }
     true
 }

@@ -12,19 +12,18 @@ use Rattle.cycles.proofs.Moves.{SearchMoved, finish, finished_safe}
 use Rattle.cycles.proofs.Turns.{SearchTurned, Turning, end_inside}
 
 -- All edges of x are passed over, and w' has x as finished.
-pub record Leaving (D : Digraph) (w w' : List ℕ) (depth x j : ℕ) : Type 0 where
-  pub turning : Turning D w depth x j
-  pub all : D.count x ≤ j
+pub record Leaving (D : Digraph) (w w' : List ℕ) (depth x : ℕ) : Type 0 where
+  pub turning : Turning D w depth x (D.count x)
   pub stored : w' ≡ set w x finished_mark
 
-module _ {D : Digraph} {w w' : List ℕ} {depth x j : ℕ} (L : Leaving D w w' depth x j) where
-  T : Turning D w depth x j
+module _ {D : Digraph} {w w' : List ℕ} {depth x : ℕ} (L : Leaving D w w' depth x) where
+  T : Turning D w depth x (D.count x)
   T = L.turning
 
   left_path : SearchMoved D w w' (depth - 1)
   left_path =
       subst (λ (v : List ℕ). SearchMoved D w v (depth - 1)) (sym L.stored)
-      (finish T.search x T.some T.end (λ k h old. T.passed.over.ends k (omega arith) (omega (arith, L.all))))
+      (finish T.search x T.some T.end (λ k h old. T.over.ends k (omega arith) h))
 
   pub coming_out : (x' i' : ℕ) → depth - 1 ≤ 0 → SearchTurned D w w' (depth - 1) x' i'
   coming_out x' i' empty =

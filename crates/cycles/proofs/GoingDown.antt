@@ -13,12 +13,13 @@ use Rattle.cycles.proofs.Moves.{Advanced, advance, path_room}
 use Rattle.cycles.proofs.Answers.{closed}
 use Rattle.cycles.proofs.Turns.{SearchTurned, Turning, started_at, end_inside, end_begun}
 
--- The edge of x at place j leads to y and must be followed.
+-- The edge of x at place j leads to y, which is open: it must be followed.
 pub record Facing (D : Digraph) (w : List ℕ) (depth x j y : ℕ) : Type 0 where
   pub turning : Turning D w depth x j
   pub more : j < D.count x
   pub leads : D.next x j ≡ y
   pub inside : y < D.size
+  pub unfinished : mark w y ≡ finished_mark → ⊥
 
 module _ {D : Digraph} {w : List ℕ} {depth x j y : ℕ} (F : Facing D w depth x j y) where
   T : Turning D w depth x j
@@ -30,12 +31,9 @@ module _ {D : Digraph} {w : List ℕ} {depth x j y : ℕ} (F : Facing D w depth 
   pub closing : (mark w y ≡ 0 → ⊥) → FoundCycle D w w
   closing begun =
       record {
-        cycle = closed T.search x y T.some T.end (j, F.more, F.leads) F.inside begun unfinished;
+        cycle = closed T.search x y T.some T.end (j, F.more, F.leads) F.inside begun F.unfinished;
         behind = refl;
       }
-    where
-      unfinished : mark w y ≡ finished_mark → ⊥
-      unfinished = subst (λ (z : ℕ). mark w z ≡ finished_mark → ⊥) F.leads (T.passed.stops F.more)
 
   pub going_down : {w'' : List ℕ} → mark w y ≡ 0 → w'' ≡ set (set (set w x (j + 1)) y 1) (D.size + depth) y → SearchTurned D w w'' (depth + 1) y 0
   going_down {w''} fresh stored =
@@ -50,8 +48,8 @@ module _ {D : Digraph} {w : List ℕ} {depth x j y : ℕ} (F : Facing D w depth 
 
       A : Advanced D w w' depth
       A =
-          advance T.search x j T.some T.end (omega (arith, T.passed.over.from)) F.more
-          (λ k old h. T.passed.over.ends k (omega arith) h)
+          advance T.search x j T.some T.end (omega (arith, T.over.from)) F.more
+          (λ k old h. T.over.ends k (omega arith) h)
 
       -- the mark of x does not touch that of a new vertex
       still_new : mark w' y ≡ 0

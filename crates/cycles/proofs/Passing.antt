@@ -1,6 +1,6 @@
 -- Edges passed over: the marks of a search are enough to do it (`sure`), what the tests of a vertex say (`open_read`,
--- `no_function_no_edges`), the turns of the loop (`over_none`, `over_next`, `stops_here`, `over_all`), and edges passed over twice in
--- a row (`over_join`). Assumes nothing.
+-- `no_function_no_edges`), no edges (`over_none`), edges passed over twice in a row (`over_join`), and what is found behind them
+-- (`passed`). Assumes nothing.
 use mathlib.Core.Path.{◌≡◌, sym, ap, ◌∙◌, subst}
 use mathlib.Core.Bool.{Bool, true, false, not}
 use mathlib.Core.List.{List}
@@ -10,6 +10,7 @@ use native.Mathlib.Decide.{ℕ_discrete, dec_lt}
 use native.Mathlib.Omega.{arith}
 use lib.Dec.{eqb}
 use borrow.Author.Tests.{not-true, eq-eqb, ne_eqb}
+use Rattle.std.specs.Prelude.{Option, None, Some, MatchOption}
 use Rattle.words.specs.Word.{same_kind}
 use Rattle.words.specs.declared.kind.Kind.TheVariants.{Function}
 use Rattle.table.specs.Table.{choose, kind_at, content_at, degree}
@@ -34,19 +35,11 @@ pub no_function_no_edges : (t : List ℕ) (x : ℕ) {function : Bool} → functi
 unfolding degree choose
 no_function_no_edges t x {function} read none = ap (λ (b : Bool). choose b (content_at t (x + 1)) 0) (sym read ∙ not-true function none)
 
-not_open_safe : {D : Digraph} {w : List ℕ} → Sure D w → (y : ℕ) → y < D.size → Open (D.count y) (mark w y) false → Safe D y
+pub not_open_safe : {D : Digraph} {w : List ℕ} → Sure D w → (y : ℕ) → y < D.size → Open (D.count y) (mark w y) false → Safe D y
 not_open_safe {D} known y inside = ⊎_elim (no_edges_safe D y) (known.finished y inside)
 
 pub over_none : {D : Digraph} {x i : ℕ} → i ≤ D.count x → Over D x i i
 over_none within = record { from = omega arith; within = within; ends = λ k h l. absurd (omega arith) }
-
-over_one : {D : Digraph} {x i j : ℕ} → Over D x i j → j < D.count x → Safe D (D.next x j) → Over D x i (j + 1)
-over_one {D} {x} {i} {j} over more end =
-    record { from = omega (arith, over.from); within = omega arith; ends = λ k h l. go k h l (ℕ_discrete k j) }
-  where
-    go : (k : ℕ) → i ≤ k → k < j + 1 → Dec (k ≡ j) → Safe D (D.next x k)
-    go k h l (yes e) = subst (λ (z : ℕ). Safe D (D.next x z)) (sym e) end
-    go k h l (no e) = over.ends k h (omega arith)
 
 pub over_join : {D : Digraph} {x i j k : ℕ} → Over D x i j → Over D x j k → Over D x i k
 over_join {D} {x} {i} {j} {k} p q =
@@ -56,21 +49,32 @@ over_join {D} {x} {i} {j} {k} p q =
     go z h l (yes m) = p.ends z h m
     go z h l (no m) = q.ends z (omega arith) l
 
--- one turn of the loop, by what it read: the vertex y to which edge j leads, and whether y is open
-module _ {t row w : List ℕ} {x i j y : ℕ} {answer : Bool} (ready : Searchable t row) (known : Sure (digraph_of t row) w) (over : Over (digraph_of t row) x i j)
-    (more : j < degree t x) (leads : y ≡ (digraph_of t row).next x j) (told : Open (degree t y) (mark w y) answer) where
-  pub over_next : answer ≡ false → Over (digraph_of t row) x i (j + 1)
-  over_next e =
-      over_one over more
-      (subst (Safe (digraph_of t row)) leads
-      (not_open_safe known y (omega (arith, ready.name_inside x j more)) (subst (Open (degree t y) (mark w y)) e told)))
+-- whether the vertex to which an edge leads is open, from what was read of it
+pub open_there :
+    (t row w : List ℕ) (x k : ℕ) (answer : Bool) {y : ℕ} {b : Bool} →
+    y ≡ (digraph_of t row).next x k →
+    Open (degree t y) (mark w y) b →
+    b ≡ answer →
+    Open (degree t ((digraph_of t row).next x k)) (mark w ((digraph_of t row).next x k)) answer
+open_there t row w x k answer leads told e = subst (λ (z : ℕ). Open (degree t z) (mark w z) answer) leads (subst (Open (degree t _) (mark w _)) e told)
 
-  pub stops_here : answer ≡ true → Passed (digraph_of t row) w x i j
-  stops_here e =
+-- what a search for the first edge that leads to an open vertex finds
+module _ {t row w : List ℕ} (ready : Searchable t row) (known : Sure (digraph_of t row) w) (x : ℕ) {i count : ℕ} (counted : count ≡ degree t x) (within : i ≤ degree t x) where
+  abbrev D : Digraph
+  D = digraph_of t row
+
+  safe_there : (k : ℕ) → k < degree t x → Open (degree t (D.next x k)) (mark w (D.next x k)) false → Safe D (D.next x k)
+  safe_there k more = not_open_safe known (D.next x k) (ready.name_inside x k more)
+
+  pub passed :
+      (r : Option ℕ) →
+      MatchOption r ((k : ℕ) → i ≤ k → k < count → Open (degree t (D.next x k)) (mark w (D.next x k)) false)
+      (λ j. (i ≤ j) × (j < count) × Open (degree t (D.next x j)) (mark w (D.next x j)) true × ((k : ℕ) → i ≤ k → k < j → Open (degree t (D.next x k)) (mark w (D.next x k)) false)) →
+      Passed D w x i r
+  passed None ends = record { from = within; within = omega arith; ends = λ k h l. safe_there k l (ends k h (omega arith)) }
+  passed (Some j) (from, more, leads_on, ends) =
       record {
-        over = over;
-        stops = λ h. subst (λ (z : ℕ). Open (degree t z) (mark w z) true) leads (subst (Open (degree t y) (mark w y)) e told);
+        over = record { from = from; within = omega arith; ends = λ k h l. safe_there k (omega arith) (ends k h l) };
+        more = omega arith;
+        leads_on = leads_on;
       }
-
-pub over_all : {D : Digraph} {w : List ℕ} {x i j : ℕ} → Over D x i j → D.count x ≤ j → Passed D w x i j
-over_all over all = record { over = over; stops = λ h. absurd (omega arith) }

@@ -7,7 +7,7 @@ use mathlib.Core.List.{List, ◌++◌}
 use Prim.Native.Nat.{ℕ, ◌+◌, ◌*◌, ◌≤◌, ◌<◌}
 use native.Mathlib.Decide.{ℕ_discrete}
 use native.Mathlib.Omega.{arith}
-use lib.ListN.{length, get_or, set, drop, replicate}
+use lib.ListN.{length, get_or, set, drop, replicate, length-append, length-replicate, length-drop}
 use Rattle.rows.specs.Placed.{zeroed}
 use Rattle.rows.proofs.Laws.{behind_cleared, cleared_zero}
 use Rattle.graphs.specs.Partition.{entry}
@@ -106,9 +106,10 @@ swept_all {t} {row} {before} {work} {x} ready swept all =
 -- ---- the whole
 
 -- after the first clearing
-pub started : {t row work : List ℕ} (before : List ℕ) → Searchable t row → 2 * length t ≤ length before → work ≡ zeroed (length t) before → length work ≡ length before
+pub started : {t row work : List ℕ} (before : List ℕ) → Searchable t row → 2 * length t ≤ length before → work ≡ zeroed (length t) before
     → Search (digraph_of t row) work 0
-started {t} {row} {work} before asked room cleared long =
+started {t} {row} {work} before asked room cleared =
+    let long : length work ≡ length before = ap length cleared ∙ simp (length-append, length-replicate, length-drop) (omega arith) in
     start (digraph_of t row) work (omega arith) (degree_small asked.readable) (λ x h. ap (λ (v : List ℕ). get_or v x 0) cleared ∙ cleared_zero before (length t) x h)
 
 -- after the last one

@@ -6,7 +6,7 @@ use Prim.Native.Nat.{ℕ, ◌+◌, ◌-◌, ◌<◌}
 use native.Mathlib.Omega.{arith}
 use lib.ListN.{set}
 use Rattle.cycles.specs.Digraph.{Digraph}
-use Rattle.cycles.specs.Steps.Marks.{mark, on_path, Follows, Search, Grown, Over, Passed}
+use Rattle.cycles.specs.Steps.Marks.{mark, on_path, Follows, Search, Grown, Over}
 use Rattle.cycles.proofs.Totals.{left}
 use Rattle.cycles.proofs.Stores.{raised_push, pushed}
 use Rattle.cycles.proofs.Moves.{SearchMoved, begin, path_room}
@@ -62,13 +62,13 @@ pub record Turning (D : Digraph) (w : List ℕ) (depth x j : ℕ) : Type 0 where
   pub search : Search D w depth
   pub some : 0 < depth
   pub end : on_path D w (depth - 1) ≡ x
-  pub passed : Passed D w x (mark w x - 1) j
+  pub over : Over D x (mark w x - 1) j
 
-pub turning : {D : Digraph} {w : List ℕ} {depth x i j : ℕ} → SearchGoing D w depth x i → 0 < depth → Passed D w x i j → Turning D w depth x j
-turning G some passed =
+pub turning : {D : Digraph} {w : List ℕ} {depth x i j : ℕ} → SearchGoing D w depth x i → 0 < depth → Over D x i j → Turning D w depth x j
+turning G some over =
     record {
       search = G.search;
       some = some;
       end = G.end some;
-      passed = record { over = over_join (G.over some) passed.over; stops = passed.stops };
+      over = over_join (G.over some) over;
     }

@@ -1,5 +1,5 @@
 // The rows and the digraph, in numbers of one width.
-ghost use Rattle.std.specs.Prelude.{◌≡◌, ◌<◌, length, set};
+ghost use Rattle.std.specs.Prelude.{◌≡◌, ◌<◌, length};
 ghost use Rattle.words.specs.Word.{same_kind};
 ghost use Rattle.words.specs.declared.kind.Kind.{Kind};
 ghost use Rattle.graphs.specs.Partition.{entry};
@@ -9,14 +9,6 @@ ghost use Rattle.cycles.specs.Digraph.{Searchable};
 
 use table::node;
 use words::numbers::Address;
-
-// Sets the entry of a row at i.
-pub fn put(row: &mut [u16], i: usize, v: usize)
-    requires { (i < length row.old) × (v < 65536) }
-    ensures { row.new ≡ set row.old i v }
-{
-    row[i] = v as u16;
-}
 
 // Whether x is a function: no edge leads from anything else.
 pub fn has_edges(table: &[u32], x: usize) -> bool
@@ -40,5 +32,5 @@ pub fn next(table: &[u32], class: &[u16], x: usize, i: usize) -> usize
     ensures { result ≡ entry class.now (child_of table.now x i) }
 {
     let child = node::child(table, Address(x as u16), i as u16);
-    rows::at(class, child.0 as usize)
+    class[child.0 as usize] as usize
 }

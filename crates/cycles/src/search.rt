@@ -19,11 +19,9 @@ fn from_root(table: &[u32], class: &[u16], work: &mut [u16], root: usize) -> boo
     let mut x = root;
     let mut i = 0;
     while 0 < depth {
-        let count = reads::edge_count(table, x);
-        let j = path::pass_over(table, class, work, x, i, count);
-        if j < count {
+        if let Some(j) = path::pass_over(table, class, work, x, i) {
             let y = reads::next(table, class, x, j);
-            if rows::at(work, y) != 0 {
+            if work[y] != 0 {
                 return true;
             }
             path::follow(work, table.len(), depth, x, j, y);
@@ -35,7 +33,7 @@ fn from_root(table: &[u32], class: &[u16], work: &mut [u16], root: usize) -> boo
             depth -= 1;
             if 0 < depth {
                 x = path::end(work, table.len(), depth);
-                i = rows::at(work, x);
+                i = work[x] as usize;
             }
         }
     }
@@ -51,10 +49,10 @@ fn visit(table: &[u32], class: &[u16], work: &mut [u16], x: usize) -> bool
     if !reads::has_edges(table, x) {
         return false;
     }
-    if rows::at(work, x) != 0 {
+    if work[x] != 0 {
         return false;
     }
-    if rows::at(class, x) != x {
+    if class[x] as usize != x {
         return false;
     }
     from_root(table, class, work, x)
@@ -65,12 +63,10 @@ fn from_each(table: &[u32], class: &[u16], work: &mut [u16]) -> bool
     requires { Searchable table.now class.now × Search (digraph_of table.now class.now) work.old 0 }
     ensures { Told (digraph_of table.now class.now) work.old work.new result }
 {
-    let mut x = 0;
-    while x < table.len() {
+    for x in 0..table.len() {
         if visit(table, class, work, x) {
             return true;
         }
-        x += 1;
     }
     false
 }
@@ -84,8 +80,8 @@ pub fn reaches_itself(table: &[u32], class: &[u16], work: &mut [u16]) -> bool
     requires { Searchable table.now class.now × (2 * length table.now ≤ length work.old) }
     ensures { Searched table.now class.now work.old result work.new }
 {
-    rows::clear16(work, table.len()); // old marks never count; the path is written before it is read
+    work[..table.len()].fill(0); // old marks never count; the path is written before it is read
     let found = from_each(table, class, work);
-    rows::clear16(work, 2 * table.len()); // and none are left
+    work[..2 * table.len()].fill(0); // and none are left
     found
 }

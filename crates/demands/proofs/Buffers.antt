@@ -13,8 +13,7 @@ use lib.Seq.{take_at}
 use Rattle.answering.specs.Buffers.{changes_nothing, left}
 use Rattle.answering.proofs.BufferLaws.{early_changes, late_changes, left_same, left-zeroed}
 use Rattle.checker.specs.Check.{Checked, CheckOf, number_of as check_number}
-use Rattle.matcher.specs.declared.answer.Matched.{Matched}
-use Rattle.matcher.specs.Match.{number_of, MatchOf}
+use Rattle.matcher.specs.Match.{Matched, number_of, MatchOf}
 use Rattle.jobfile.specs.declared.answers.WriteAnswer.{WriteAnswer}
 use Rattle.jobfile.specs.declared.answers.WriteAnswer.TheVariants.{Written, Contents, Body, File, Room as NoRoom}
 use Rattle.jobfile.specs.File.{file_of}

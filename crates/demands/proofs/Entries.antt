@@ -18,8 +18,7 @@ use Rattle.graphs.specs.Term.{WellCounted, Replacement, ◌then◌, Unifies, Fol
 use Rattle.table.specs.Table.{TableSymbols, graph_of}
 use Rattle.table.specs.Faults.{Fault, number, check_order, match_order}
 use Rattle.checker.specs.Check.{Checked, number_of as check_number, place_of as check_place, checked_job}
-use Rattle.matcher.specs.declared.answer.Matched.{Matched}
-use Rattle.matcher.specs.Match.{number_of, place_of, joins_of, Passes, job_of}
+use Rattle.matcher.specs.Match.{Matched, number_of, place_of, joins_of, Passes, job_of}
 use Rattle.matcher.specs.Demands.{Met, MetCounted, FirstUnmet}
 use Rattle.matcher.proofs.Demands.{accepted_passes, accepted_class_table, accepted_classes, accepted_smallest, accepted_joins, accepted_exactly, accepted_exactly_counted, answer_makes_equal, answer_well_counted, answer_rule, answer_rule_only, answer_most_general_of_list, refused_at_first}
 use Rattle.matcher.proofs.Verdicts.{at_most}

@@ -22,9 +22,9 @@ use Rattle.graphs.specs.Term.{WellCounted, Replacement, ◌then◌, Unifies, Fol
 use Rattle.graphs.proofs.Theorems.{class_table_classes, class_table_smallest, answer_counted}
 use Rattle.table.specs.Table.{TableSymbols, graph_of}
 use Rattle.table.specs.Faults.{Job, sent, Fault, number as match_number, size_rows, table_rows, list_rows, pair_rows, match_order}
-use Rattle.matcher.specs.declared.answer.Matched.{Matched}
-use Rattle.matcher.specs.declared.answer.Matched.TheVariants.{Accepted, Clash as ClashAt, Cycle as CycleAt}
-use Rattle.matcher.specs.Match.{number_of, place_of, joins_of, MatchOf, Passes, job_of as lent_job}
+use Rattle.std.specs.Prelude.{Ok, Err}
+use Rattle.matcher.specs.declared.answer.Refusal.TheVariants.{Clash as ClashAt, Cycle as CycleAt}
+use Rattle.matcher.specs.Match.{Matched, number_of, place_of, joins_of, MatchOf, Passes, job_of as lent_job}
 use Rattle.matcher.specs.Demands.{Met, MetCounted, FirstUnmet}
 use Rattle.matcher.specs.Steps.PassedAll.{PassedAll}
 use Rattle.matcher.proofs.Verdicts.{ready, behind_nine}
@@ -78,7 +78,7 @@ module _ {bytes : List ℕ} {job : ℕ} {room : List ℕ} (passes : HostPasses b
   told : {a p j : ℕ} → ((a ≡ 0 → ⊥) → j ≡ 0) → Answered match_number (Fault (called_job bytes job)) pair_rows a p → Told a p j
   unfolding match_number changes_nothing
   told {a} {p} {j} zero_joins (inl (e, f)) = record {
-    r = ClashAt (record { 0 = p });
+    r = Err (ClashAt (record { 0 = p }));
     number_is = sym e;
     place_is = refl;
     joins_is = sym (zero_joins (λ z. omega arith));
@@ -86,7 +86,7 @@ module _ {bytes : List ℕ} {job : ℕ} {room : List ℕ} (passes : HostPasses b
     answered = behind_nine passes_match a p (inl (e, f));
   }
   told {a} {p} {j} zero_joins (inr (no_clash, inl (e, f))) = record {
-    r = CycleAt (record { 0 = p });
+    r = Err (CycleAt (record { 0 = p }));
     number_is = sym e;
     place_is = refl;
     joins_is = sym (zero_joins (λ z. omega arith));
@@ -94,7 +94,7 @@ module _ {bytes : List ℕ} {job : ℕ} {room : List ℕ} (passes : HostPasses b
     answered = behind_nine passes_match a p (inr (no_clash, inl (e, f)));
   }
   told {a} {p} {j} zero_joins (inr (no_clash, inr (no_cycle, (z, e)))) = record {
-    r = Accepted (record { joins = j });
+    r = Ok (record { joins = j });
     number_is = sym z;
     place_is = sym e;
     joins_is = refl;

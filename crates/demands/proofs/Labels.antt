@@ -23,8 +23,7 @@ use Rattle.table.specs.Table.{TableSymbols, graph_of}
 use Rattle.table.specs.Faults.{Job, StoodEarlier, Repeats, FirstClash, FirstCycle, Row, NAME, LOOP, CLASH, CYCLE, number, Fault, name_fault, clash_fault, cycle_fault, size_rows, shape_rows, check_order, list_rows, pair_rows, match_order}
 use Rattle.table.specs.Relabelled.{Relabelled}
 use Rattle.table.proofs.Relabelled.{relabelled_graph}
-use Rattle.matcher.specs.declared.answer.Matched.{Matched}
-use Rattle.matcher.specs.Match.{number_of, place_of, joins_of, MatchOf, Passes, job_of}
+use Rattle.matcher.specs.Match.{Matched, number_of, place_of, joins_of, MatchOf, Passes, job_of}
 use Rattle.matcher.proofs.OneMatch.{match_only}
 use Rattle.matcher.proofs.Verdicts.{ready, behind_nine}
 use Rattle.jobfile.specs.Faults.{file_number}

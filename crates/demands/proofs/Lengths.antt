@@ -15,8 +15,7 @@ use Rattle.answering.proofs.BufferLaws.{left_same, left-zeroed}
 use Rattle.graphs.proofs.Classes.{never}
 use Rattle.table.specs.Faults.{Job, Row, Fault, room_fault, number, size_rows, table_rows, list_rows, pair_rows}
 use Rattle.checker.specs.Check.{Checked, CheckOf, number_of as check_number, place_of as check_place, checked_job}
-use Rattle.matcher.specs.declared.answer.Matched.{Matched}
-use Rattle.matcher.specs.Match.{number_of, place_of, MatchOf, job_of}
+use Rattle.matcher.specs.Match.{Matched, number_of, place_of, MatchOf, job_of}
 use Rattle.matcher.proofs.Verdicts.{at_most}
 use Rattle.jobfile.specs.declared.answers.WriteAnswer.{WriteAnswer}
 use Rattle.jobfile.specs.declared.answers.WriteAnswer.TheVariants.{Written, Contents, Body, File, Room as NoRoom}

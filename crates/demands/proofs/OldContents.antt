@@ -14,8 +14,7 @@ use lib.Seq.{take_at}
 use Rattle.answering.specs.Buffers.{changes_nothing, left}
 use Rattle.checker.specs.Check.{Checked, CheckOf, number_of as check_number}
 use Rattle.checker.proofs.OneCheck.{check_answer_only}
-use Rattle.matcher.specs.declared.answer.Matched.{Matched}
-use Rattle.matcher.specs.Match.{MatchOf, number_of}
+use Rattle.matcher.specs.Match.{Matched, MatchOf, number_of}
 use Rattle.matcher.proofs.OneMatch.{match_answer_only, same_tables}
 use Rattle.jobfile.specs.declared.answers.WriteAnswer.{WriteAnswer}
 use Rattle.jobfile.specs.declared.answers.WriteAnswer.TheVariants.{Written, Contents, Body, File, Room as NoRoom}

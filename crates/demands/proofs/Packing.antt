@@ -27,8 +27,7 @@ use Rattle.table.proofs.Readable.{inside_kind}
 use Rattle.classes.proofs.ClassTables.{count_below}
 use Rattle.checker.specs.Check.{number_of as check_number, place_of as check_place, checked_job}
 use Rattle.checker.proofs.Stages.{break_within}
-use Rattle.matcher.specs.declared.answer.Matched.{Matched}
-use Rattle.matcher.specs.Match.{number_of, place_of, joins_of, MatchOf, job_of}
+use Rattle.matcher.specs.Match.{Matched, number_of, place_of, joins_of, MatchOf, job_of}
 use Rattle.matcher.proofs.ListLaws.{half_entries}
 use Rattle.matcher.proofs.OneMatch.{refused_joins}
 use Rattle.matcher.proofs.Verdicts.{at_most}

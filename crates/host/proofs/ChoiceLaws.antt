@@ -1,35 +1,43 @@
 -- Which job is chosen, and by which of the six numbers a call is refused.
 --
 -- In order: no row applies at two places (`host_once`); the match's rows as rows of the call (`from_match`, `to_match`,
--- `none_of_match`); the file's rows (`file_answered`, `early_file`); the job's n and p by the row of sizes (`chosen`); none of the six (`none_early`); these six write nothing
--- (`early_silent`, `refused_early`). Assumes nothing.
-use mathlib.Core.Path.{◌≡◌, refl, sym, ◌∙◌, subst}
+-- `none_of_match`); the file's rows (`file_answered`, `early_file`); no job of the number (`early_none`); a size that is not
+-- allowed, or no room (`early_size`, `early_room`); none of the six (`none_early`); these six write nothing (`early_silent`,
+-- `refused_early`). Assumes nothing.
+use mathlib.Core.Path.{◌≡◌, refl, subst}
 use mathlib.Core.Bool.{true}
 use mathlib.Core.Logic.{◌⊎◌, inl, inr}
 use mathlib.Core.List.{List, map}
-use Prim.Native.Nat.{ℕ, ◌+◌, ◌-◌, ◌*◌, ◌/◌, ◌≤◌, ◌<◌}
+use Prim.Native.Nat.{ℕ, ◌+◌, ◌*◌, ◌≤◌, ◌<◌}
 use native.Mathlib.Omega.{arith}
-use lib.ListN.{length, get_or, replicate}
+use Rattle.std.specs.Prelude.{Err}
+use lib.ListN.{length, replicate}
 use Rattle.words.specs.Limits.{most_words}
 use Rattle.answering.specs.Answers.{Answered, NoneOf}
 use Rattle.answering.proofs.Orders.{each, answered_tested, passed_none, refused_first, none_first, none_both, carried, carried_back, none_carried}
 use Rattle.table.specs.Faults.{Row as MatchRow, Fault, number as match_number}
 use Rattle.table.proofs.OneAnswer.{fault_once}
-use Rattle.jobfile.specs.File.{count_in, words_in, pairs_in, GoodFile}
+use Rattle.jobfile.specs.File.{count_in, GoodFile}
 use Rattle.jobfile.specs.Faults.{FileRow, ReadFault, file_number, read_order}
-use Rattle.jobfile.specs.Reader.{number_of, place_of, Judged, ReadOf}
-use Rattle.jobfile.specs.declared.answers.FileAnswer.{FileAnswer}
-use Rattle.jobfile.specs.declared.sizes.Sizes.{Sizes}
-use Rattle.jobfile.proofs.ReaderLaws.{read_once, good_judged, judged_good, good_number}
-use Rattle.jobfile.proofs.Theorems.{good_count, good_entry}
-use Rattle.jobfile.specs.Jobs.{entry_of, words_of}
+use Rattle.jobfile.specs.Reader.{fault_number, fault_place, Judged}
+use Rattle.jobfile.specs.declared.answers.FileFault.{FileFault}
+use Rattle.jobfile.specs.declared.answers.FileFault.TheVariants.{File as BadFile, Contents, Body}
+use Rattle.jobfile.specs.declared.found.NoJob.{NoJob}
+use Rattle.jobfile.specs.declared.found.NoJob.TheVariants.{File, Number}
+use Rattle.jobfile.specs.Found.{FoundBy, refusal_number as no_job_number}
+use Rattle.jobfile.proofs.ReaderLaws.{read_once, good_judged}
+use Rattle.jobfile.specs.Jobs.{words_of, JobWith}
 use Rattle.host.specs.Host.{called_job, HostRow, of_file, JOB, SIZE, ROOM, of_match, host_number, HostFault, file_fault, job_fault, size_fault, room_fault, match_fault, call_rows, early_order, late_order, report_of, writes_nothing, HostOf}
-use Rattle.host.specs.Steps.Choice.{Sized, no_size, no_room, fits, Numbered, no_job, there, Early, JobFound, Choice}
-use Rattle.host.specs.declared.choice.Chosen.{Chosen}
-use Rattle.host.specs.declared.choice.Chosen.TheVariants.{Refused, Found}
+use Rattle.host.specs.Steps.Choice.{Early}
 use Rattle.host.proofs.ReportLaws.{room_untouched}
 
 -- ---- the rows
+
+-- what refuses a file has a number
+pub fault_refuses : (fault : FileFault) → fault_number fault ≡ 0 → ⊥
+fault_refuses BadFile z = omega (arith, z)
+fault_refuses Contents z = omega (arith, z)
+fault_refuses (Body entry) z = omega (arith, z)
 
 module _ (bytes : List ℕ) (job : ℕ) (room : List ℕ) where
   pub host_once : (row : HostRow) (p q : ℕ) → HostFault bytes job room row p → HostFault bytes job room row q → p ≡ q
@@ -70,15 +78,14 @@ module _ (bytes : List ℕ) (job : ℕ) (room : List ℕ) where
   file_answered a p =
       carried file_number (ReadFault bytes) host_number (HostFault bytes job room) of_file (λ row. true) (λ row. refl) (λ row q t f. file_fault f) (λ row q t f. out_of_file q f) read_order a p refl
 
-  pub early_file : (answer : FileAnswer) {r : ℕ} → Judged bytes answer → r ≡ number_of answer → (r ≡ 0 → ⊥) → Early bytes job room r
-  early_file answer {r} judged e refused = record {
-    place = place_of answer;
-    refused = refused;
-    answered =
-        subst (λ (a : ℕ). Answered host_number (HostFault bytes job room) early_order a (place_of answer)) (sym e)
-        (refused_first host_number (HostFault bytes job room) (map of_file read_order) call_rows (number_of answer) (place_of answer) (λ z. refused (e ∙ z))
-        (file_answered (number_of answer) (place_of answer) judged));
-  }
+  early_file : (fault : FileFault) → Judged bytes (Err fault) → Early bytes job room (fault_number fault)
+  early_file fault judged =
+      let refused : fault_number fault ≡ 0 → ⊥ = fault_refuses fault in
+      record {
+        place = fault_place fault;
+        refused = refused;
+        answered = refused_first host_number (HostFault bytes job room) (map of_file read_order) call_rows (fault_number fault) (fault_place fault) refused (file_answered (fault_number fault) (fault_place fault) judged);
+      }
 
   -- ---- the job, in a good file
 
@@ -106,40 +113,37 @@ module _ (bytes : List ℕ) (job : ℕ) (room : List ℕ) where
     none_early some_job inside some_word few_words enough =
         none_both (HostFault bytes job room) (map of_file read_order) call_rows no_file_row (no_job_row some_job inside, (no_size_row some_word few_words, (no_room_row enough, tt)))
 
-    sized_choice : {chosen : Chosen} {n p : ℕ} → 1 ≤ job → job ≤ count_in bytes → n ≡ words_of bytes job → p ≡ pairs_in bytes (entry_of job)
-        → Sized n p (length room) chosen → Choice bytes job room chosen
+    early_job : (job ≡ 0) ⊎ (count_in bytes < job) → Early bytes job room 15
     unfolding host_number
-    sized_choice some_job inside words pairs (no_size h) =
-        record { place = 0; refused = λ z. omega arith; answered = after_file 1 0 (inr (no_job_row some_job inside, inl (refl, size_fault (subst (λ (n : ℕ). (n ≡ 0) ⊎ (most_words < n)) words h)))) }
-    sized_choice some_job inside words pairs (no_room s f h) =
-        record {
-          place = 0;
-          refused = λ z. omega arith;
-          answered = after_file 2 0 (inr (no_job_row some_job inside, inr (no_size_row (omega arith) (omega arith), inl (refl, room_fault (omega arith)))));
-        }
-    sized_choice some_job inside words pairs (fits s f q h) =
-        record { good = good; some_job = some_job; inside = inside; words = words; pairs = pairs; few_pairs = q; some_word = s; few_words = f; enough = h }
+    early_job h = record { place = 0; refused = λ z. omega arith; answered = after_file 15 0 (inl (refl, job_fault h)) }
 
-    numbered_choice : {chosen : Chosen} (sizes : List ℕ) {jobs : ℕ} → jobs ≡ count_in bytes
-        → ((k : ℕ) → k < count_in bytes → (get_or sizes (2 * k) 0 ≡ words_in bytes k) × (get_or sizes (2 * k + 1) 0 ≡ pairs_in bytes k))
-        → Numbered sizes jobs job (length room) chosen → Choice bytes job room chosen
+  -- there is no job of the number
+  pub early_none : (none : NoJob) → FoundBy bytes job (Err none) → Early bytes job room (no_job_number none)
+  early_none (File fault) found = early_file fault found
+  early_none Number found = early_job found.0 found.1
+
+  -- there is one, of n words
+  module _ {n p : ℕ} (found : JobWith bytes job n p) where
+    there_row : (q : ℕ) → HostFault bytes job room JOB q → ⊥
+    there_row = no_job_row found.there.good found.there.some_job found.there.inside
+
+    pub early_size : (n ≡ 0) ⊎ (most_words < n) → Early bytes job room 1
     unfolding host_number
-    numbered_choice sizes e held (no_job h) =
-        record { place = 0; refused = λ z. omega arith; answered = after_file 15 0 (inl (refl, job_fault (subst (λ (n : ℕ). (job ≡ 0) ⊎ (n < job)) e h))) }
-    numbered_choice sizes e held (there some_job inside s) =
-        let k : job - 1 < count_in bytes = omega arith in
-        sized_choice some_job (omega arith) (held (job - 1) k).0 (held (job - 1) k).1 s
+    early_size h = record {
+      place = 0;
+      refused = λ z. omega arith;
+      answered = after_file found.there.good 1 0 (inr (there_row, inl (refl, size_fault (subst (λ (m : ℕ). (m ≡ 0) ⊎ (most_words < m)) found.words h))));
+    }
 
--- the job's n and p are the numbers at its places in the row
-pub numbered_there : {sizes : List ℕ} {jobs job room n p : ℕ} {chosen : Chosen} → 1 ≤ job → job ≤ jobs → n ≡ get_or sizes (2 * (job - 1)) 0 → p ≡ get_or sizes (2 * (job - 1) + 1) 0
-    → Sized n p room chosen → Numbered sizes jobs job room chosen
-numbered_there {chosen = chosen} some_job inside e f s = there {chosen = chosen} some_job inside (rw (sym e, sym f) s)
-
-pub chosen_numbered : {bytes : List ℕ} {job : ℕ} (room : List ℕ) {answer : FileAnswer} {sizes : Sizes} {r : ℕ} {chosen : Chosen} → ReadOf bytes answer sizes → r ≡ number_of answer → r ≡ 0
-    → Numbered sizes.row (sizes.count / 2) job (length room) chosen → Choice bytes job room chosen
-chosen_numbered {bytes} {job} room {answer} {sizes} read e z by =
-    let good : GoodFile bytes = judged_good (subst (Judged bytes) (good_number answer (sym e ∙ z)) read.judged) in
-    numbered_choice bytes job room good sizes.row (omega (arith, good_count good read)) (good_entry good read) by
+    pub early_room : 1 ≤ n → n ≤ most_words → length room < 6 + 2 * n → Early bytes job room 2
+    unfolding host_number
+    early_room some few short = record {
+      place = 0;
+      refused = λ z. omega arith;
+      answered =
+          after_file found.there.good 2 0
+          (inr (there_row, inr (no_size_row found.there.good (omega (arith, found.words)) (omega (arith, found.words)), inl (refl, room_fault (omega (arith, found.words, short))))));
+    }
 
 -- ---- these six write nothing
 
@@ -147,12 +151,6 @@ module _ (bytes : List ℕ) (job : ℕ) (room : List ℕ) where
   pub early_silent : (a p : ℕ) → (a ≡ 0 → ⊥) → Answered host_number (HostFault bytes job room) early_order a p → writes_nothing a ≡ true
   unfolding host_number file_number writes_nothing
   early_silent a p refused = answered_tested host_number (HostFault bytes job room) writes_nothing early_order a p refl (λ z. absurd (refused z))
-
-  pub choice_refused : {chosen : Chosen} {a : ℕ} → Choice bytes job room chosen → chosen ≡ Refused a → Early bytes job room a
-  choice_refused c e = subst (Choice bytes job room) e c
-
-  pub choice_found : {chosen : Chosen} {n p : ℕ} → Choice bytes job room chosen → chosen ≡ Found n p → JobFound bytes job n p (length room)
-  choice_found c e = subst (Choice bytes job room) e c
 
   pub refused_early : {a : ℕ} → Early bytes job room a → HostOf bytes job room a room
   refused_early {a} early =

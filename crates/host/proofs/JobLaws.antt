@@ -20,14 +20,13 @@ use Rattle.answering.proofs.BufferLaws.{later_rows, left-zeroed}
 use Rattle.graphs.specs.Partition.{pairs_of, ClassTable, joins}
 use Rattle.table.specs.Table.{graph_of}
 use Rattle.table.specs.Faults.{sent, Row as MatchRow, SIZE, ROOM, Fault, size_fault, room_fault, list_fault, number as match_number, size_rows, table_rows, list_rows, pair_rows, check_order, match_order}
-use Rattle.matcher.specs.Match.{number_of, place_of, joins_of, MatchOf}
-use Rattle.matcher.specs.declared.answer.Matched.{Matched}
+use Rattle.matcher.specs.Match.{Matched, number_of, place_of, joins_of, MatchOf}
 use Rattle.matcher.proofs.OneMatch.{refused_joins}
 use Rattle.jobfile.specs.File.{pairs_in, body_in}
 use Rattle.jobfile.proofs.NumberLaws.{length-row_in}
-use Rattle.jobfile.specs.Jobs.{JobTaken, entry_of, words_of, table_of, list_of}
+use Rattle.jobfile.specs.Jobs.{JobTaken, JobWith, entry_of, words_of, table_of, list_of}
 use Rattle.host.specs.Host.{called_job, host_number, HostFault, early_order, late_order, report_of, writes_nothing, HostOf}
-use Rattle.host.specs.Steps.Choice.{JobFound}
+use Rattle.host.specs.Steps.Choice.{Matchable}
 use Rattle.host.specs.Steps.Rows.{list_room, RowsFit, RowsOfJob}
 use Rattle.host.proofs.ReportLaws.{room_reported}
 use Rattle.host.proofs.ChoiceLaws.{from_match, none_early}
@@ -169,21 +168,21 @@ pub rows_fit : {n size list work : ℕ} → list ≡ list_room → n ≤ size �
 rows_fit lists fits works = (fits, lists, fits, omega arith)
 
 -- the fronts of rows with room for it are just as long as it wants them, whatever the rows' own lengths
-pub lent_fronts : {bytes : List ℕ} {job n p entries : ℕ} (table list class work : List ℕ) {room : List ℕ} → JobFound bytes job n p (length room) → RowsFit n (length table) (length list) (length class) (length work)
-    → (entries ≡ min (2 * p) (length list)) × (entries ≤ 2 * p) × (entries ≤ length list) → RowsOfJob bytes job (take n table) (take entries list) (take n class) (take (4 * n) work) room
-lent_fronts {p = p} {entries} table list class work o (tables, lists, classes, works) (e, there, inside) =
-    let long : length (take entries list) ≡ entries = length-take-le entries list inside in
+pub lent_fronts : {bytes : List ℕ} {job n p entries : ℕ} (table list class work : List ℕ) {room : List ℕ} → JobWith bytes job n p → Matchable n (length room) → RowsFit n (length table) (length list) (length class) (length work)
+    → entries ≡ min (2 * p) (length list) → RowsOfJob bytes job (take n table) (take entries list) (take n class) (take (4 * n) work) room
+lent_fronts {p = p} {entries} table list class work found o (tables, lists, classes, works) e =
+    let long : length (take entries list) ≡ entries = length-take-le entries list (omega (arith, e)) in
     record {
       copied =
           record {
-            there = record { good = o.good; some_job = o.some_job; inside = o.inside };
-            words = length-take-le _ table tables ∙ o.words;
-            pairs = omega (arith, there, o.pairs);
+            there = found.there;
+            words = length-take-le _ table tables ∙ found.words;
+            pairs = omega (arith, e, long, found.pairs);
           };
-      cut = long ∙ e ∙ ap (min (2 * p)) lists ∙ ap (λ (q : ℕ). min (2 * q) list_room) o.pairs;
-      classes = length-take-le _ class classes ∙ o.words;
-      works = length-take-le _ work works ∙ ap (λ (m : ℕ). 4 * m) o.words;
-      some_word = omega (arith, o.some_word, o.words);
-      few_words = omega (arith, o.few_words, o.words);
-      enough = omega (arith, o.enough, o.words);
+      cut = long ∙ e ∙ ap (min (2 * p)) lists ∙ ap (λ (q : ℕ). min (2 * q) list_room) found.pairs;
+      classes = length-take-le _ class classes ∙ found.words;
+      works = length-take-le _ work works ∙ ap (λ (m : ℕ). 4 * m) found.words;
+      some_word = omega (arith, o.some_word, found.words);
+      few_words = omega (arith, o.few_words, found.words);
+      enough = omega (arith, o.enough, found.words);
     }

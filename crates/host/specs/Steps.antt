@@ -1,3 +1,4 @@
 -- What the crate's own steps promise each other; nobody else need read it.
 pub mod Choice
+pub mod Copied
 pub mod Rows

@@ -3,10 +3,11 @@
 ghost use Rattle.std.specs.Prelude.{◌≡◌, ◌*◌, ◌≤◌, length};
 ghost use Rattle.words.specs.Limits.{most_words};
 ghost use Rattle.host.specs.Host.{HostOf};
-ghost use Rattle.host.specs.Steps.Choice.{JobFound};
+ghost use Rattle.host.specs.Steps.Choice.{Matchable};
 ghost use Rattle.host.specs.Steps.Rows.{list_room, RowsFit};
 
 use crate::job;
+use jobfile::FoundJob;
 use words::limits::MOST_WORDS;
 
 // Words of a small and of a middle table, and the entries of a work row for them and for the largest.
@@ -20,24 +21,21 @@ const MIDDLE_WORK: usize = 4 * MIDDLE;
 
 const LARGE_WORK: usize = 4 * MOST_WORDS;
 
-// Matches the job of n words and p pairs in the fronts of rows that have room for it.
+// Matches a job in the fronts of rows that have room for it.
 fn match_in(
-    file: &[u8],
-    job: usize,
-    n: usize,
-    p: usize,
+    job: FoundJob<'_>,
     table: &mut [u32],
     list: &mut [u16],
     class: &mut [u16],
     work: &mut [u16],
     room: &mut [u8],
 ) -> u16
-    requires { JobFound file.now job n p (length room.old) × RowsFit n (length table.old) (length list.old) (length class.old) (length work.old) }
-    ensures { HostOf file.now job room.old result room.new }
+    requires { Matchable job.words (length room.old) × RowsFit job.words (length table.old) (length list.old) (length class.old) (length work.old) }
+    ensures { HostOf job.entry.file.now job.entry.number room.old result room.new }
 {
-    let entries = rows::least(2 * p, list.len());
+    let n = job.words;
+    let entries = (2 * job.pairs).min(list.len());
     job::match_lent(
-        file,
         job,
         &mut table[..n],
         &mut list[..entries],
@@ -50,41 +48,29 @@ fn match_in(
 // The same in new rows for a table of up to WORDS words. WORK is four times WORDS, which has to be said, since the
 // length of a row cannot be computed from a parameter.
 fn match_in_rows<const WORDS: usize, const WORK: usize>(
-    file: &[u8],
-    job: usize,
-    n: usize,
-    p: usize,
+    job: FoundJob<'_>,
     list: &mut [u16],
     room: &mut [u8],
 ) -> u16
-    requires { JobFound file.now job n p (length room.old) × (length list.old ≡ list_room) × (n ≤ WORDS) × (WORDS ≤ most_words) × (WORK ≡ 4 * WORDS) }
-    ensures { HostOf file.now job room.old result room.new }
+    requires { Matchable job.words (length room.old) × (length list.old ≡ list_room) × (job.words ≤ WORDS) × (WORDS ≤ most_words) × (WORK ≡ 4 * WORDS) }
+    ensures { HostOf job.entry.file.now job.entry.number room.old result room.new }
 {
     let mut table = [0u32; WORDS];
     let mut class = [0u16; WORDS];
     let mut work = [0u16; WORK];
-    match_in(
-        file, job, n, p, &mut table, list, &mut class, &mut work, room,
-    )
+    match_in(job, &mut table, list, &mut class, &mut work, room)
 }
 
-// Matches the job of n words and p pairs, by the size of its table.
-pub(crate) fn match_found(
-    file: &[u8],
-    job: usize,
-    n: usize,
-    p: usize,
-    list: &mut [u16],
-    room: &mut [u8],
-) -> u16
-    requires { JobFound file.now job n p (length room.old) × (length list.old ≡ list_room) }
-    ensures { HostOf file.now job room.old result room.new }
+// Matches a job, by the size of its table.
+pub(crate) fn match_found(job: FoundJob<'_>, list: &mut [u16], room: &mut [u8]) -> u16
+    requires { Matchable job.words (length room.old) × (length list.old ≡ list_room) }
+    ensures { HostOf job.entry.file.now job.entry.number room.old result room.new }
 {
-    if n <= SMALL {
-        return match_in_rows::<SMALL, SMALL_WORK>(file, job, n, p, list, room);
+    if job.words <= SMALL {
+        return match_in_rows::<SMALL, SMALL_WORK>(job, list, room);
     }
-    if n <= MIDDLE {
-        return match_in_rows::<MIDDLE, MIDDLE_WORK>(file, job, n, p, list, room);
+    if job.words <= MIDDLE {
+        return match_in_rows::<MIDDLE, MIDDLE_WORK>(job, list, room);
     }
-    match_in_rows::<MOST_WORDS, LARGE_WORK>(file, job, n, p, list, room)
+    match_in_rows::<MOST_WORDS, LARGE_WORK>(job, list, room)
 }

@@ -4,21 +4,21 @@ ghost use Rattle.host.specs.Host.{HostOf};
 ghost use Rattle.host.specs.Steps.Rows.{RowsOfJob};
 
 use crate::report;
+use jobfile::FoundJob;
 
 // Matches the job on rows of just the lengths that it has.
 pub(crate) fn match_lent(
-    file: &[u8],
-    job: usize,
+    job: FoundJob<'_>,
     table: &mut [u32],
     list: &mut [u16],
     class: &mut [u16],
     work: &mut [u16],
     room: &mut [u8],
 ) -> u16
-    requires { RowsOfJob file.now job table.old list.old class.old work.old room.old }
-    ensures { HostOf file.now job room.old result room.new }
+    requires { RowsOfJob job.file.now job.number table.old list.old class.old work.old room.old }
+    ensures { HostOf job.entry.file.now job.entry.number room.old result room.new }
 {
-    jobfile::take_job(file, job, table, list);
+    jobfile::take_job(job, table, list);
     let answer = matcher::match_list(table, list, class, work);
     report::report(answer, class, room)
 }

@@ -5,14 +5,12 @@
 mod choice;
 mod found;
 mod job;
-pub mod matched;
 mod packed;
 mod report;
 mod sizes;
 
 ghost use Rattle.host.specs.Host.{HostOf};
 
-use choice::Chosen;
 pub use packed::as_one;
 pub use sizes::read_sizes;
 use words::limits::MOST_ENTRIES;
@@ -27,7 +25,7 @@ pub fn match_job(file: &[u8], job: u32, room: &mut [u8]) -> u16
     // It stands before all tests for the compiler's sake: docs/DECISIONS.md, 'Rows by the size of a job'.
     let mut list = [0u16; LIST_ROOM];
     match choice::choose(file, job as usize, room) {
-        Chosen::Refused(number) => number,
-        Chosen::Found(n, p) => { found::match_found(file, job as usize, n, p, &mut list, room) }
+        Ok(job) => found::match_found(job, &mut list, room),
+        Err(refusal) => refusal.number(),
     }
 }

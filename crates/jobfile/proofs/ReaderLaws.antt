@@ -8,26 +8,28 @@
 --     a good file       body_inside, good_judged, judged_good, passed_good, good_number
 -- Assumes nothing.
 use mathlib.Core.Path.{◌≡◌, refl, sym, ap, ap₂, ◌∙◌, subst}
+use mathlib.Core.HLevel.{is_prop→PathP}
 use mathlib.Core.Bool.{cond}
+use Rattle.std.specs.Prelude.{Ok, Err}
 use mathlib.Core.Logic.{◌⊎◌, inl, inr}
 use mathlib.Core.List.{List}
 use Prim.Native.Nat.{ℕ, zero, suc, ◌+◌, ◌-◌, ◌*◌, ◌≤◌, ◌<◌}
 use native.Mathlib.Numerals.{add-one}
 use native.Mathlib.Decide.{dec_lt, dec_le, ℕ_discrete}
+use native.Mathlib.Bridge.{le_prop}
 use native.Mathlib.Omega.{arith}
 use lib.Dec.{eqb}
 use lib.ListN.{length}
 use borrow.Author.Count.{below_more}
-use Rattle.words.specs.Limits.{most_bytes, most_jobs}
+use Rattle.words.specs.Limits.{most_bytes, most_jobs, most_sizes}
 use Rattle.answering.specs.Answers.{Answered, Lowest}
 use Rattle.answering.proofs.LowestLaws.{lowest_only}
 use Rattle.answering.proofs.Orders.{answered_only, passed_none}
 use Rattle.jobfile.specs.File.{body_size, contents_end, count_in, offset_in, words_in, pairs_in, body_start, GoodFile}
 use Rattle.jobfile.specs.Faults.{FileRow, FILE, CONTENTS, BODY, file_number, BodyFault, wrong_offset, past_end, bytes_follow, ReadFault, file_fault, contents_fault, body_fault, read_order}
-use Rattle.jobfile.specs.Reader.{number_of, place_of, Judged, yielded_sizes, yielded_bodies, in_row, Holds, ReadOf, BodiesOf}
+use Rattle.jobfile.specs.Reader.{FileAnswer, number_of, place_of, Judged, yielded_sizes, yielded_bodies, in_row, Holds, ReadOf, BodiesOf}
 use Rattle.jobfile.specs.Steps.Reading.{Opened, BodiesJudged}
-use Rattle.jobfile.specs.declared.answers.FileAnswer.{FileAnswer}
-use Rattle.jobfile.specs.declared.answers.FileAnswer.TheVariants.{Good, File, Contents, Body}
+use Rattle.jobfile.specs.declared.answers.FileFault.TheVariants.{File, Contents, Body}
 use Rattle.jobfile.specs.declared.sizes.Sizes.{Sizes}
 use Rattle.jobfile.proofs.FileLaws.{next_start}
 
@@ -81,15 +83,15 @@ module _ {bytes : List ℕ} {k start : ℕ} (walked : EntriesWalked bytes k star
   lowest_follow : count_in bytes ≤ k → start < length bytes → Lowest (BodyFault bytes) (count_in bytes + 1)
   lowest_follow h over = record { has = bytes_follow (omega (arith, all_walked h)); none_below = λ p l. none_before p (omega arith) }
 
-  pub bodies_wrong : k < count_in bytes → (offset_in bytes k ≡ start → ⊥) → BodiesJudged bytes (Body (record { 0 = k + 1 }))
+  pub bodies_wrong : k < count_in bytes → (offset_in bytes k ≡ start → ⊥) → BodiesJudged bytes (Err (Body (record { 0 = k + 1 })))
   unfolding file_number
   bodies_wrong h other = inl (refl, body_fault (lowest_wrong h other))
 
-  pub bodies_past : {size : ℕ} → k < count_in bytes → size ≡ body_size (words_in bytes k) (pairs_in bytes k) → length bytes < start + size → BodiesJudged bytes (Body (record { 0 = k + 1 }))
+  pub bodies_past : {size : ℕ} → k < count_in bytes → size ≡ body_size (words_in bytes k) (pairs_in bytes k) → length bytes < start + size → BodiesJudged bytes (Err (Body (record { 0 = k + 1 })))
   unfolding file_number
   bodies_past h e over = inl (refl, body_fault (lowest_past h e over))
 
-  pub bodies_follow : {jobs : ℕ} → jobs ≡ count_in bytes → count_in bytes ≤ k → start < length bytes → BodiesJudged bytes (Body (record { 0 = jobs + 1 }))
+  pub bodies_follow : {jobs : ℕ} → jobs ≡ count_in bytes → count_in bytes ≤ k → start < length bytes → BodiesJudged bytes (Err (Body (record { 0 = jobs + 1 })))
   unfolding file_number
   bodies_follow {jobs} e h over = inl (refl, body_fault {p = jobs + 1} (rw e (lowest_follow h over)))
 
@@ -98,7 +100,7 @@ module _ {bytes : List ℕ} {k start : ℕ} (walked : EntriesWalked bytes k star
   no_body h ends p (past_end {k = j} l over) = omega (arith, (walked.fine j (omega arith)).inside)
   no_body h ends p (bytes_follow over) = omega (arith, all_walked h)
 
-  pub bodies_good : count_in bytes ≤ k → length bytes ≤ start → BodiesJudged bytes Good
+  pub bodies_good : count_in bytes ≤ k → length bytes ≤ start → BodiesJudged bytes (Ok tt)
   bodies_good h ends = inr (no_row, (refl, refl))
     where
       no_row : (p : ℕ) → ReadFault bytes BODY p → ⊥
@@ -107,7 +109,7 @@ module _ {bytes : List ℕ} {k start : ℕ} (walked : EntriesWalked bytes k star
 -- ---- the whole
 
 module _ {bytes : List ℕ} where
-  pub judged_file : (length bytes < 2) ⊎ (most_bytes < length bytes) → Judged bytes File
+  pub judged_file : (length bytes < 2) ⊎ (most_bytes < length bytes) → Judged bytes (Err File)
   unfolding file_number
   judged_file why = inl (refl, file_fault why)
 
@@ -120,7 +122,7 @@ module _ {bytes : List ℕ} where
   no_contents some_job few_jobs inside p (contents_fault (inr (inl many))) = omega arith
   no_contents some_job few_jobs inside p (contents_fault (inr (inr over))) = omega arith
 
-  pub judged_contents : 2 ≤ length bytes → length bytes ≤ most_bytes → (count_in bytes ≡ 0) ⊎ ((most_jobs < count_in bytes) ⊎ (length bytes < contents_end (count_in bytes))) → Judged bytes Contents
+  pub judged_contents : 2 ≤ length bytes → length bytes ≤ most_bytes → (count_in bytes ≡ 0) ⊎ ((most_jobs < count_in bytes) ⊎ (length bytes < contents_end (count_in bytes))) → Judged bytes (Err Contents)
   unfolding file_number
   judged_contents least most why = inr (no_file least most, inl (refl, contents_fault why))
 
@@ -137,17 +139,17 @@ read_once row p q (body_fault a) (body_fault b) = lowest_only a b
 -- the answer that has a number and a place
 answer_with : ℕ → ℕ → FileAnswer
 answer_with n p =
-    cond (eqb n 0) Good
-    (cond (eqb n 12) File
-    (cond (eqb n 13) Contents
-    (Body (record { 0 = p }))))
+    cond (eqb n 0) (Ok tt)
+    (cond (eqb n 12) (Err File)
+    (cond (eqb n 13) (Err Contents)
+    (Err (Body (record { 0 = p })))))
 
 answer_by_numbers : (r : FileAnswer) → answer_with (number_of r) (place_of r) ≡ r
 unfolding answer_with
-answer_by_numbers Good = refl
-answer_by_numbers File = refl
-answer_by_numbers Contents = refl
-answer_by_numbers (Body entry) = refl
+answer_by_numbers (Ok good) = refl
+answer_by_numbers (Err File) = refl
+answer_by_numbers (Err Contents) = refl
+answer_by_numbers (Err (Body entry)) = refl
 
 -- A file has one answer, by its numbers ..
 pub answered_once : {bytes : List ℕ} {a p b q : ℕ} → Answered file_number (ReadFault bytes) read_order a p → Answered file_number (ReadFault bytes) read_order b q → (a ≡ b) × (p ≡ q)
@@ -163,7 +165,7 @@ holds_only : {xs ys : List ℕ} {a b : Sizes} → xs ≡ ys → Holds a xs → H
 holds_only {a = a} {b = b} e h k =
     let rows : a.row ≡ b.row = h.numbers ∙ ap in_row e ∙ sym k.numbers in
     let counts : a.count ≡ b.count = h.counted ∙ ap length e ∙ sym k.counted in
-    λ i. record { row = rows i; count = counts i }
+    λ i. record { row = rows i; count = counts i; within = is_prop→PathP (λ j. counts j ≤ most_sizes) (λ j. le_prop) a.within b.within i }
 
 -- Two results that the contract of read allows are equal ..
 pub read_only : {bytes : List ℕ} {r s : FileAnswer} {a b : Sizes} → ReadOf bytes r a → ReadOf bytes s b → (r ≡ s) × (a ≡ b)
@@ -189,7 +191,7 @@ body_inside {bytes} good k h =
     let way : suc k + (count_in bytes - suc k) ≡ count_in bytes = omega arith in
     omega (arith, starts_grow bytes (suc k) (count_in bytes - suc k), ap (body_start bytes) way, good.ends)
 
-pub good_judged : {bytes : List ℕ} → GoodFile bytes → Judged bytes Good
+pub good_judged : {bytes : List ℕ} → GoodFile bytes → Judged bytes (Ok tt)
 good_judged {bytes} good = inr (no_file good.at_least good.at_most, inr (no_contents good.some_job good.few_jobs good.contents_inside, inr (no_bodies, (refl, refl))))
   where
     no_fault : (p : ℕ) → BodyFault bytes p → ⊥
@@ -247,19 +249,19 @@ module _ {bytes : List ℕ} where
       go (yes l) (no m) d = absurd (none_applies 0 (contents_fault (inr (inl (omega arith)))))
       go (no l) c d = absurd (none_applies 0 (contents_fault (inl (omega arith))))
 
-  pub judged_good : Judged bytes Good → GoodFile bytes
+  pub judged_good : Judged bytes (Ok tt) → GoodFile bytes
   unfolding file_number
   judged_good judged =
       let rows = (passed_none file_number (ReadFault bytes) read_order 0 0 refl refl judged).0 in
       all_good (not_contents (not_file rows.0) rows.1.0) (λ p lowest. rows.1.1.0 p (body_fault lowest))
 
 -- an answer that is 0
-pub passed_good : {bytes : List ℕ} (r : FileAnswer) → Judged bytes r → r ≡ Good → GoodFile bytes
+pub passed_good : {bytes : List ℕ} (r : FileAnswer) → Judged bytes r → r ≡ Ok tt → GoodFile bytes
 passed_good {bytes} r judged p = judged_good (subst (Judged bytes) p judged)
 
 -- an answer of number 0
-pub good_number : (r : FileAnswer) → number_of r ≡ 0 → r ≡ Good
-good_number Good e = refl
-good_number File e = absurd (omega arith)
-good_number Contents e = absurd (omega arith)
-good_number (Body entry) e = absurd (omega arith)
+pub good_number : (r : FileAnswer) → number_of r ≡ 0 → r ≡ Ok tt
+good_number (Ok good) e = refl
+good_number (Err File) e = absurd (omega arith)
+good_number (Err Contents) e = absurd (omega arith)
+good_number (Err (Body entry)) e = absurd (omega arith)

@@ -14,6 +14,7 @@
 -- (WriteAnswers.antt). Assumes nothing.
 use mathlib.Core.Path.{◌≡◌, refl, sym, ap, ap₂, ◌∙◌, subst}
 use mathlib.Core.List.{List, ◌++◌}
+use Rattle.std.specs.Prelude.{Ok, Err}
 use Prim.Native.Nat.{ℕ, zero, suc, ◌+◌, ◌-◌, ◌*◌, ◌≤◌, ◌<◌}
 use native.Mathlib.Omega.{arith}
 use lib.ListN.{length, take, drop, get_or, replicate, length-replicate, length-append, get_or-append}
@@ -24,12 +25,8 @@ use Rattle.graphs.specs.Partition.{pairs_of}
 use Rattle.jobfile.specs.Numbers.{row_in}
 use Rattle.jobfile.specs.File.{body_size, contents_end, count_in, words_in, pairs_in, body_start, body_in, sizes_in, bodies_in, GoodFile, file_of}
 use Rattle.jobfile.specs.Jobs.{FileJob, sizes_of, bodies_of, file_of_jobs, Holdable, job_in, jobs_from, jobs_in}
-use Rattle.jobfile.specs.Reader.{Judged, yielded_sizes, yielded_bodies, in_row, Holds, ReadOf, BodiesOf}
-use Rattle.jobfile.specs.Writer.{WriteOf, room_written}
-use Rattle.jobfile.specs.declared.answers.FileAnswer.{FileAnswer}
-use Rattle.jobfile.specs.declared.answers.FileAnswer.TheVariants.{Good, File, Contents, Body}
-use Rattle.jobfile.specs.declared.answers.WriteAnswer.{WriteAnswer}
-use Rattle.jobfile.specs.declared.answers.WriteAnswer.TheVariants.{Written}
+use Rattle.jobfile.specs.Reader.{FileAnswer, Judged, yielded_sizes, yielded_bodies, in_row, Holds, ReadOf, BodiesOf}
+use Rattle.jobfile.specs.Writer.{WriteAnswer, WriteOf, room_written}
 use Rattle.jobfile.specs.declared.sizes.Sizes.{Sizes}
 use Rattle.jobfile.proofs.FileLaws.{length-sizes_from, entry_in_sizes}
 use Rattle.jobfile.proofs.ReaderLaws.{judged_only, good_judged, judged_good}
@@ -40,9 +37,9 @@ use Rattle.jobfile.proofs.JobLaws.{length-sizes_of, jobs_sum, jobs_back, row_in_
 -- ---- the reader and the good files
 
 pub reader_accepts_good : {bytes : List ℕ} {answer : FileAnswer} {sizes : Sizes} → ReadOf bytes answer sizes
-    → (answer ≡ Good → GoodFile bytes) × (GoodFile bytes → answer ≡ Good)
+    → (answer ≡ Ok tt → GoodFile bytes) × (GoodFile bytes → answer ≡ Ok tt)
 reader_accepts_good {bytes} {answer} r =
-    (λ e. judged_good (subst (Judged bytes) e r.judged), λ good. judged_only answer Good r.judged (good_judged good))
+    (λ e. judged_good (subst (Judged bytes) e r.judged), λ good. judged_only answer (Ok tt) r.judged (good_judged good))
 
 -- the sizes that count, of a row by value
 held : {sizes : Sizes} {xs : List ℕ} → Holds sizes xs → take sizes.count sizes.row ≡ xs
@@ -73,9 +70,9 @@ module _ {bytes : List ℕ} (good : GoodFile bytes) where
       (at (2 * k) (omega arith) ∙ held.0, at (2 * k + 1) (omega arith) ∙ held.1)
 
   pub good_bodies : {part : List ℕ} → BodiesOf bytes part → part ≡ bodies_in bytes
-  good_bodies b = b.yielded ∙ ap (λ (q : FileAnswer). yielded_bodies q bytes) (judged_only b.answer Good b.judged (good_judged good))
+  good_bodies b = b.yielded ∙ ap (λ (q : FileAnswer). yielded_bodies q bytes) (judged_only b.answer (Ok tt) b.judged (good_judged good))
 
-pub writer_writes_good : {sizes bodies room after : List ℕ} → WriteOf sizes bodies room Written after
+pub writer_writes_good : {sizes bodies room after : List ℕ} → WriteOf sizes bodies room (Ok tt) after
     → GoodFile (file_of sizes bodies)
     × (after ≡ file_of sizes bodies ++ drop (length (file_of sizes bodies)) room)
     × (sizes_in (file_of sizes bodies) ≡ sizes)
@@ -87,13 +84,13 @@ writer_writes_good r = let w = written_writable r in (written_good w, r.room_lef
 
 pub good_read_written_again : {bytes part room after : List ℕ} {answer : FileAnswer} {sizes : Sizes} {written : WriteAnswer} → AllBytes bytes → GoodFile bytes
     → ReadOf bytes answer sizes → BodiesOf bytes part → length bytes ≤ length room → WriteOf (take sizes.count sizes.row) part room written after
-    → (written ≡ Written) × (after ≡ bytes ++ drop (length bytes) room)
+    → (written ≡ Ok tt) × (after ≡ bytes ++ drop (length bytes) room)
 good_read_written_again {bytes} {part} {room} {after} {sizes = sizes} {written} all good r b enough w =
     let same : file_of (sizes_in bytes) (bodies_in bytes) ≡ bytes = good_again good all in
     let w' : WriteOf (sizes_in bytes) (bodies_in bytes) room written after =
     subst (λ (l : List ℕ). WriteOf l (bodies_in bytes) room written after) (good_sizes good r)
     (subst (λ (l : List ℕ). WriteOf (take sizes.count sizes.row) l room written after) (good_bodies good b) w) in
-    let done : (written ≡ Written) × (after ≡ file_of (sizes_in bytes) (bodies_in bytes) ++ drop (length (file_of (sizes_in bytes) (bodies_in bytes))) room) =
+    let done : (written ≡ Ok tt) × (after ≡ file_of (sizes_in bytes) (bodies_in bytes) ++ drop (length (file_of (sizes_in bytes) (bodies_in bytes))) room) =
     writable_written (good_writable good all) (omega (arith, ap length same)) w' in
     (done.0, done.1 ∙ ap (λ (l : List ℕ). l ++ drop (length l) room) same)
 
@@ -109,11 +106,11 @@ holdable_writable {jobs} h = record {
 }
 
 pub jobs_written : {jobs : List FileJob} {room after : List ℕ} {written : WriteAnswer} → Holdable jobs → length (file_of_jobs jobs) ≤ length room
-    → WriteOf (sizes_of jobs) (bodies_of jobs) room written after → (written ≡ Written) × (after ≡ file_of_jobs jobs ++ drop (length (file_of_jobs jobs)) room)
+    → WriteOf (sizes_of jobs) (bodies_of jobs) room written after → (written ≡ Ok tt) × (after ≡ file_of_jobs jobs ++ drop (length (file_of_jobs jobs)) room)
 jobs_written h enough w = writable_written (holdable_writable h) enough w
 
 pub jobs_read_back : {jobs : List FileJob} {answer : FileAnswer} {sizes : Sizes} → Holdable jobs → ReadOf (file_of_jobs jobs) answer sizes
-    → (answer ≡ Good) × (take sizes.count sizes.row ≡ sizes_of jobs) × (jobs_in (file_of_jobs jobs) ≡ jobs)
+    → (answer ≡ Ok tt) × (take sizes.count sizes.row ≡ sizes_of jobs) × (jobs_in (file_of_jobs jobs) ≡ jobs)
 jobs_read_back {jobs} h r =
     let w : Writable (sizes_of jobs) (bodies_of jobs) = holdable_writable h in
     let good : GoodFile (file_of_jobs jobs) = written_good w in (
@@ -166,10 +163,8 @@ pub read_count : {bytes : List ℕ} {answer : FileAnswer} {sizes : Sizes} → Re
 read_count {bytes} {answer} {sizes} r = go answer r.judged r.yielded.counted
   where
     go : (q : FileAnswer) → Judged bytes q → sizes.count ≡ length (yielded_sizes q bytes) → sizes.count ≤ most_sizes
-    go Good judged e = omega (arith, length-sizes_from (count_in bytes) 0 bytes, (judged_good judged).few_jobs)
-    go File judged e = omega arith
-    go Contents judged e = omega arith
-    go (Body entry) judged e = omega arith
+    go (Ok good) judged e = omega (arith, length-sizes_from (count_in bytes) 0 bytes, (judged_good judged).few_jobs)
+    go (Err fault) judged e = omega arith
 
 pub read_length : {bytes : List ℕ} {answer : FileAnswer} {sizes : Sizes} → ReadOf bytes answer sizes → length sizes.row ≡ most_sizes
 unfolding in_row

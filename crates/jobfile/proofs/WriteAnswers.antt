@@ -5,6 +5,7 @@ use mathlib.Core.Path.{◌≡◌, refl, sym, ap, ap₂, ◌∙◌}
 use mathlib.Core.Bool.{cond}
 use mathlib.Core.Logic.{◌⊎◌, inl, inr}
 use mathlib.Core.List.{List, ◌++◌}
+use Rattle.std.specs.Prelude.{Ok, Err}
 use Prim.Native.Nat.{ℕ, ◌+◌, ◌%◌, ◌≤◌, ◌<◌}
 use native.Mathlib.Decide.{dec_le, ℕ_discrete}
 use native.Mathlib.Omega.{arith}
@@ -17,10 +18,9 @@ use Rattle.words.specs.Limits.{most_bytes, most_jobs}
 use Rattle.answering.proofs.Orders.{answered_alike, answered_only, passed_none}
 use Rattle.jobfile.specs.File.{contents_end, job_count, bodies_size, file_of}
 use Rattle.jobfile.specs.Faults.{FileRow, CONTENTS, BODY, FILE, ROOM, file_number, WriteFault, contents_refused, body_refused, file_refused, room_refused, write_order}
-use Rattle.jobfile.specs.Writer.{number_of, place_of, room_written, WriteOf}
+use Rattle.jobfile.specs.Writer.{WriteAnswer, number_of, place_of, room_written, WriteOf}
 use Rattle.jobfile.specs.Steps.Writing.{front_of, Fitted}
-use Rattle.jobfile.specs.declared.answers.WriteAnswer.{WriteAnswer}
-use Rattle.jobfile.specs.declared.answers.WriteAnswer.TheVariants.{Written, Contents, Body, File, Room}
+use Rattle.jobfile.specs.declared.answers.WriteFault.TheVariants.{Contents, Body, File, Room}
 use Rattle.jobfile.proofs.FileLaws.{length-file_of}
 use Rattle.jobfile.proofs.WriterLaws.{length-front_of}
 use Rattle.jobfile.proofs.Written.{Writable}
@@ -46,11 +46,11 @@ module _ (sizes bodies room : List ℕ) where
   no_room : length (file_of sizes bodies) ≤ length room → (p : ℕ) → WriteFault sizes bodies room ROOM p → ⊥
   no_room h p (room_refused short) = omega arith
 
-  pub write_contents : (length sizes % 2 ≡ 1) ⊎ ((job_count sizes ≡ 0) ⊎ (most_jobs < job_count sizes)) → WriteOf sizes bodies room Contents room
+  pub write_contents : (length sizes % 2 ≡ 1) ⊎ ((job_count sizes ≡ 0) ⊎ (most_jobs < job_count sizes)) → WriteOf sizes bodies room (Err Contents) room
   unfolding file_number room_written
   write_contents why = record { answered = inl (refl, contents_refused why); room_left = refl }
 
-  pub write_body : Allowed sizes → (length bodies ≡ bodies_size sizes → ⊥) → WriteOf sizes bodies room Body room
+  pub write_body : Allowed sizes → (length bodies ≡ bodies_size sizes → ⊥) → WriteOf sizes bodies room (Err Body) room
   unfolding file_number room_written
   write_body ok other = record { answered = inr (no_contents ok, inl (refl, body_refused other)); room_left = refl }
 
@@ -58,12 +58,12 @@ module _ (sizes bodies room : List ℕ) where
     file_size : length (file_of sizes bodies) ≡ contents_end (job_count sizes) + length bodies
     file_size = length-file_of sizes bodies ok.even
 
-    pub write_file : most_bytes < contents_end (job_count sizes) + length bodies → WriteOf sizes bodies room File room
+    pub write_file : most_bytes < contents_end (job_count sizes) + length bodies → WriteOf sizes bodies room (Err File) room
     unfolding file_number room_written
     write_file over = record { answered = inr (no_contents ok, inr (no_body sum, inl (refl, file_refused (omega (arith, file_size))))); room_left = refl }
 
     module _ (within : contents_end (job_count sizes) + length bodies ≤ most_bytes) where
-      pub write_room : length room < contents_end (job_count sizes) + length bodies → WriteOf sizes bodies room Room room
+      pub write_room : length room < contents_end (job_count sizes) + length bodies → WriteOf sizes bodies room (Err Room) room
       unfolding file_number room_written
       write_room short =
           record {
@@ -77,7 +77,7 @@ module _ (sizes bodies room : List ℕ) where
 
         -- the contents, and behind them the bodies, are the file
         pub write_all : {between after : List ℕ} → between ≡ front_of sizes ++ drop (length (front_of sizes)) room → after ≡ placed (contents_end (job_count sizes)) bodies between
-            → WriteOf sizes bodies room Written after
+            → WriteOf sizes bodies room (Ok tt) after
         unfolding room_written placed file_of
         write_all {between} {after} first second =
             let start : ℕ = contents_end (job_count sizes) in
@@ -97,7 +97,7 @@ module _ (sizes bodies room : List ℕ) where
 -- ---- what is not refused
 
 -- what the writer writes, no row refuses
-pub written_writable : {sizes bodies room after : List ℕ} → WriteOf sizes bodies room Written after → Writable sizes bodies
+pub written_writable : {sizes bodies room after : List ℕ} → WriteOf sizes bodies room (Ok tt) after → Writable sizes bodies
 unfolding file_number
 written_writable {sizes} {bodies} {room} w =
     let rows = (passed_none file_number (WriteFault sizes bodies room) write_order 0 0 refl refl w.answered).0 in
@@ -131,19 +131,19 @@ write_once row p q (room_refused a) (room_refused b) = refl
 -- the answer that has a number
 answer_with : ℕ → WriteAnswer
 answer_with n =
-    cond (eqb n 0) Written
-    (cond (eqb n 13) Contents
-    (cond (eqb n 14) Body
-    (cond (eqb n 12) File
-    Room)))
+    cond (eqb n 0) (Ok tt)
+    (cond (eqb n 13) (Err Contents)
+    (cond (eqb n 14) (Err Body)
+    (cond (eqb n 12) (Err File)
+    (Err Room))))
 
 answer_by_number : (r : WriteAnswer) → answer_with (number_of r) ≡ r
 unfolding answer_with
-answer_by_number Written = refl
-answer_by_number Contents = refl
-answer_by_number Body = refl
-answer_by_number File = refl
-answer_by_number Room = refl
+answer_by_number (Ok written) = refl
+answer_by_number (Err Contents) = refl
+answer_by_number (Err Body) = refl
+answer_by_number (Err File) = refl
+answer_by_number (Err Room) = refl
 
 -- What the room held before does not count: rooms of one length have one answer.
 room_alike : {sizes bodies room other : List ℕ} → length room ≡ length other → (row : FileRow) (p : ℕ) → WriteFault sizes bodies room row p → WriteFault sizes bodies other row p
@@ -169,10 +169,10 @@ write_only {sizes} {bodies} {room} {r} {s} a b =
 
 -- What no row refuses, the writer writes, where there is room.
 pub writable_written : {sizes bodies room : List ℕ} {r : WriteAnswer} {after : List ℕ} → Writable sizes bodies → length (file_of sizes bodies) ≤ length room
-    → WriteOf sizes bodies room r after → (r ≡ Written) × (after ≡ file_of sizes bodies ++ drop (length (file_of sizes bodies)) room)
+    → WriteOf sizes bodies room r after → (r ≡ Ok tt) × (after ≡ file_of sizes bodies ++ drop (length (file_of sizes bodies)) room)
 unfolding room_written
 writable_written {sizes} {bodies} {room} {r} w enough given =
     let ok : Allowed sizes = record { even = w.even; some_job = w.some_job; few_jobs = w.few_jobs } in
     let size : length (file_of sizes bodies) ≡ contents_end (job_count sizes) + length bodies = length-file_of sizes bodies w.even in
-    let e : r ≡ Written = (write_only given (write_all sizes bodies room ok w.sum (omega (arith, w.short)) (omega arith) refl refl)).0 in
+    let e : r ≡ Ok tt = (write_only given (write_all sizes bodies room ok w.sum (omega (arith, w.short)) (omega arith) refl refl)).0 in
     (e, given.room_left ∙ ap (λ (q : WriteAnswer). room_written q (file_of sizes bodies) room) e)

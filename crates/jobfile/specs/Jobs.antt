@@ -1,6 +1,7 @@
 -- The jobs of a job file: each a table's words and a list's pairs. The sentences quoted are document 01's, "The job file".
 -- Assumes nothing.
-use Rattle.std.specs.Prelude.{◌≡◌, List, [], ◌∷◌, ◌++◌, ℕ, ◌-◌, ◌*◌, ◌^◌, ◌≤◌, length, take, drop}
+use Rattle.std.specs.Prelude.{◌≡◌, List, [], ◌∷◌, ◌++◌, ℕ, ◌-◌, ◌*◌, ◌^◌, ◌≤◌, ◌<◌, length, take, drop}
+use Rattle.std.proofs.Props.{props}
 use Rattle.words.specs.Limits.{most_bytes, most_jobs}
 use Rattle.graphs.specs.Partition.{Pair, pairs_of}
 use Rattle.jobfile.specs.Numbers.{bytes_of_row, row_in, AllBelow}
@@ -83,6 +84,18 @@ pub record JobThere (bytes : List ℕ) (job : ℕ) : Type 0 where
   pub good : GoodFile bytes
   pub some_job : 1 ≤ job
   pub inside : job ≤ count_in bytes
+
+-- The same, with its n and p.
+pub record JobWith (bytes : List ℕ) (job n p : ℕ) : Type 0 where
+  pub there : JobThere bytes job
+  pub words : n ≡ words_of bytes job
+  pub pairs : p ≡ pairs_in bytes (entry_of job)
+  -- a number of 16 bits
+  pub few_pairs : p < 65536
+
+-- There is one way at most for that to be so.
+pub job_with_is_one : (bytes : List ℕ) (job n p : ℕ) → IsProp (JobWith bytes job n p)
+job_with_is_one bytes job n p = Prim.hlevel props
 
 -- A job that is there, with a row for its words, and one for its addresses or the first of them.
 pub record RowsForJob (bytes : List ℕ) (job : ℕ) (table list : List ℕ) : Type 0 where

@@ -1,7 +1,8 @@
--- What a job file is, by bytes (Numbers, File) and by jobs (Jobs, with what is copied out of one); which faults it can have
+-- What a job file is, by bytes (Numbers, File) and by jobs (Jobs, with what is copied out of one, and Found, by number); which faults it can have
 -- (Faults); what the reader and the writer promise (Reader, Writer). Steps has what the private steps promise each other.
 pub mod Faults
 pub mod File
+pub mod Found
 pub mod Jobs
 pub mod Numbers
 pub mod Reader

@@ -7,12 +7,16 @@
 
 pub mod answers;
 mod contents;
+mod found;
+mod job;
 mod reader;
 pub mod sizes;
 mod taken;
 mod writer;
 
 pub use contents::judge;
+pub use found::{NoJob, find};
+pub use job::FoundJob;
 pub use reader::{FileRead, bodies, put_sizes, read};
 pub use taken::take_job;
 pub use writer::write;

@@ -1,10 +1,10 @@
 // The reader. Document 01, 'The job file': "A good file answers 0, place 0, and yields what the writer takes: the row of
 // sizes .., and the bodies as the part of the file after the contents; a refusal yields an empty row and part."
 ghost use Rattle.std.specs.Prelude.{◌≡◌, ◌++◌, ◌*◌, ◌≤◌, ◌<◌, length, get_or, drop};
-ghost use Rattle.jobfile.specs.File.{contents_end, count_in, sizes_in};
-ghost use Rattle.jobfile.specs.Reader.{yielded_sizes, Holds, Judged, ReadOf, BodiesOf};
+ghost use Rattle.jobfile.specs.File.{contents_end, count_in, sizes_in, GoodFile};
+ghost use Rattle.jobfile.specs.Reader.{Holds, ReadOf, BodiesOf};
 
-use crate::answers::FileAnswer;
+use crate::answers::FileFault;
 use crate::contents;
 use crate::sizes::Sizes;
 use words::limits::MOST_SIZES;
@@ -12,7 +12,7 @@ use words::limits::MOST_SIZES;
 // What the reader yields beside the part of the file that the bodies are.
 #[derive(Clone, Copy)]
 pub struct FileRead {
-    pub answer: FileAnswer,
+    pub answer: Result<(), FileFault>,
     pub sizes: Sizes,
 }
 
@@ -21,7 +21,7 @@ fn size_at(file: &[u8], i: usize) -> u16
     requires { (contents_end (count_in file.now) ≤ length file.now) × (i < 2 * count_in file.now) }
     ensures { result ≡ get_or (sizes_in file.now) i 0 }
 {
-    rows::read16(file, 2 + 6 * (i / 2) + 2 + 2 * (i % 2))
+    rows::read(file, 2 + 6 * (i / 2) + 2 + 2 * (i % 2))
 }
 
 // Puts the `count` sizes of a file over the front of row. The entries after them stay.
@@ -29,44 +29,50 @@ pub fn put_sizes(file: &[u8], count: usize, row: &mut [u16])
     requires { (contents_end (count_in file.now) ≤ length file.now) × (count ≡ 2 * count_in file.now) × (count ≤ length row.old) }
     ensures { row.new ≡ sizes_in file.now ++ drop count row.old }
 {
-    let mut i = 0;
-    while i < count {
+    for i in 0..count {
         row[i] = size_at(file, i);
-        i += 1;
     }
 }
 
-// The row of sizes that an answer yields.
-fn sizes_of(file: &[u8], answer: FileAnswer) -> Sizes
-    requires { Judged file.now answer }
-    ensures { Holds result (yielded_sizes answer file.now) }
+// The row of sizes of a good file.
+fn sizes_of(file: &[u8]) -> Sizes
+    requires { GoodFile file.now }
+    ensures { Holds result (sizes_in file.now) }
 {
     let mut row = [0u16; MOST_SIZES];
-    if let FileAnswer::Good = answer {
-        let count = 2 * contents::number(file, 0);
-        put_sizes(file, count, &mut row);
-        return Sizes { row, count };
-    }
-    Sizes { row, count: 0 }
+    let count = 2 * contents::number(file, 0);
+    put_sizes(file, count, &mut row);
+    Sizes { row, count }
 }
 
 // Reads a file: the answer, and the row of sizes, which is empty if the file is refused.
 pub fn read(file: &[u8]) -> FileRead
     ensures { ReadOf file.now result.answer result.sizes }
 {
-    let answer = contents::judge(file);
-    let sizes = sizes_of(file, answer);
-    FileRead { answer, sizes }
+    match contents::judge(file) {
+        Ok(()) => FileRead {
+            answer: Ok(()),
+            sizes: sizes_of(file),
+        },
+        Err(fault) => FileRead {
+            answer: Err(fault),
+            sizes: Sizes {
+                row: [0; MOST_SIZES],
+                count: 0,
+            },
+        },
+    }
 }
 
 // The bodies of a file, end to end: the part after the contents, which is empty if the file is refused.
 pub fn bodies(file: &[u8]) -> &[u8]
     ensures { BodiesOf file.now result.now }
 {
-    let answer = contents::judge(file);
-    if let FileAnswer::Good = answer {
-        let start = 2 + 6 * contents::number(file, 0);
-        return &file[start..];
+    match contents::judge(file) {
+        Ok(()) => {
+            let start = 2 + 6 * contents::number(file, 0);
+            &file[start..]
+        }
+        Err(_) => &[],
     }
-    &file[0..0]
 }

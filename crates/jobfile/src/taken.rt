@@ -1,56 +1,42 @@
 // A job's table and list, copied out of its body: "All numbers are little-endian, 16 bits except table words."
 //
 // Either copy stops where the body ends or the room does.
-ghost use Rattle.std.specs.Prelude.{◌≡◌};
+ghost use Rattle.std.specs.Prelude.{◌≡◌, ◌*◌, ◌≤◌, length};
 ghost use Rattle.jobfile.specs.Steps.Taking.{taken};
 ghost use Rattle.jobfile.specs.File.{body_in};
-ghost use Rattle.jobfile.specs.Jobs.{entry_of, JobThere, RowsForJob, JobTaken};
+ghost use Rattle.jobfile.specs.Jobs.{entry_of, JobTaken};
 
 use crate::contents;
+use crate::job::FoundJob;
+use rows::LittleEndian;
 
-// Copies the words at the front of body over the front of into: as many as there are, and as have room. The entries after
+// Copies the numbers at the front of bytes over the front of into: as many as there are, and as have room. The entries after
 // them stay.
-fn take_words(body: &[u8], into: &mut [u32])
-    ensures { into.new ≡ taken 4 body.now into.old }
+fn take<T: LittleEndian>(bytes: &[u8], into: &mut [T])
+    ensures { into.new ≡ taken T.of_number T.WIDTH bytes.now into.old }
 {
-    let count = rows::least(into.len(), body.len() / 4);
-    let mut i = 0;
-    while i < count {
-        into[i] = rows::read32(body, 4 * i);
-        i += 1;
+    let count = into.len().min(bytes.len() / T::WIDTH);
+    for i in 0..count {
+        into[i] = rows::read(bytes, T::WIDTH * i);
     }
 }
 
-// The same of addresses: left, right, left, right. The pairs stand after the words, so it is lent the part of the body from
-// there on.
-fn take_pairs(pairs: &[u8], into: &mut [u16])
-    ensures { into.new ≡ taken 2 pairs.now into.old }
+// The body of a job.
+fn body(job: FoundJob<'_>) -> &[u8]
+    ensures { result.now ≡ body_in job.entry.file.now (entry_of job.entry.number) }
 {
-    let count = rows::least(into.len(), pairs.len() / 2);
-    let mut i = 0;
-    while i < count {
-        into[i] = rows::read16(pairs, 2 * i);
-        i += 1;
-    }
+    let start = contents::number(job.file, 2 + 6 * (job.number - 1));
+    let end = start + contents::body_size(job.file, job.number - 1);
+    &job.file[start..end]
 }
 
-// The body of the job of a number, from 1.
-fn body(file: &[u8], job: usize) -> &[u8]
-    requires { JobThere file.now job }
-    ensures { result.now ≡ body_in file.now (entry_of job) }
+// Copies the words of a job into table, and its addresses into list, as many as have room.
+pub fn take_job(job: FoundJob<'_>, table: &mut [u32], list: &mut [u16])
+    requires { (length table.old ≡ job.words) × (length list.old ≤ 2 * job.pairs) }
+    ensures { JobTaken job.entry.file.now job.entry.number list.old table.new list.new }
 {
-    let start = contents::number(file, 2 + 6 * (job - 1));
-    let end = start + contents::body_size(file, job - 1);
-    &file[start..end]
-}
-
-// Copies the words of the job of a number, from 1, into table, and its addresses into list, as many as have room.
-pub fn take_job(file: &[u8], job: usize, table: &mut [u32], list: &mut [u16])
-    requires { RowsForJob file.now job table.old list.old }
-    ensures { JobTaken file.now job list.old table.new list.new }
-{
-    let body = body(file, job);
+    let body = body(job);
     let start = 4 * table.len();
-    take_words(body, table);
-    take_pairs(&body[start..], list);
+    take(body, table);
+    take(&body[start..], list);
 }

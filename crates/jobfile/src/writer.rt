@@ -8,7 +8,7 @@ ghost use Rattle.jobfile.specs.File.{bodies_size};
 ghost use Rattle.jobfile.specs.Writer.{WriteOf};
 ghost use Rattle.jobfile.specs.Steps.Writing.{Fitted, front_of};
 
-use crate::answers::WriteAnswer;
+use crate::answers::WriteFault;
 use words::limits::{MOST_BYTES, MOST_SIZES};
 
 // How many bytes the bodies of these sizes have.
@@ -16,23 +16,17 @@ fn bodies_size(sizes: &[u16]) -> usize
     requires { length sizes.now ≤ most_sizes }
     ensures { result ≡ bodies_size sizes.now }
 {
-    let mut sum = 0;
-    let mut i = 0;
-    while i < sizes.len() {
-        sum += 4 * rows::at(sizes, i);
-        i += 1;
-    }
-    sum
+    sizes.iter().map(|size| 4 * *size as usize).sum()
 }
 
 // Puts an entry of the contents into the 6 bytes from place `at` on. The other bytes stay.
-fn put_entry(file: &mut [u8], at: usize, start: usize, n: usize, p: usize)
-    requires { (at + 6 ≤ length file.old) × (start < 65536) × (n < 65536) × (p < 65536) }
+fn put_entry(file: &mut [u8], at: usize, start: u16, n: u16, p: u16)
+    requires { at + 6 ≤ length file.old }
     ensures { file.new ≡ placed at (bytes_of 2 start ++ bytes_of 2 n ++ bytes_of 2 p) file.old }
 {
-    rows::write16(file, at, start as u16);
-    rows::write16(file, at + 2, n as u16);
-    rows::write16(file, at + 4, p as u16);
+    rows::write16(file, at, start);
+    rows::write16(file, at + 2, n);
+    rows::write16(file, at + 4, p);
 }
 
 // Puts the count and the entries in front. The bytes after them stay.
@@ -43,50 +37,34 @@ fn put_contents(sizes: &[u16], file: &mut [u8])
     let jobs = sizes.len() / 2;
     rows::write16(file, 0, jobs as u16);
     let mut start = 2 + 6 * jobs;
-    let mut k = 0;
-    while k < jobs {
-        let n = rows::at(sizes, 2 * k);
-        let p = rows::at(sizes, 2 * k + 1);
-        put_entry(file, 2 + 6 * k, start, n, p);
-        start += 4 * n + 4 * p;
-        k += 1;
+    for k in 0..jobs {
+        let n = sizes[2 * k];
+        let p = sizes[2 * k + 1];
+        put_entry(file, 2 + 6 * k, start as u16, n, p);
+        start += 4 * n as usize + 4 * p as usize;
     }
 }
 
-// Copies all of bodies into the bytes from place `at` on. The other bytes stay.
-fn put_bodies(bodies: &[u8], file: &mut [u8], at: usize)
-    requires { at + length bodies.now ≤ length file.old }
-    ensures { file.new ≡ placed at bodies.now file.old }
-{
-    rows::copy8(bodies, &mut file[at..]);
-}
-
-// Writes the file of these sizes and bodies into room, and answers by the first number that applies of 13, 14, 12 and 2,
-// or 0. A refusal writes nothing. Bytes after the file stay.
-pub fn write(sizes: &[u16], bodies: &[u8], room: &mut [u8]) -> WriteAnswer
+// Writes the file of these sizes and bodies into room, or answers by the first number that applies of 13, 14, 12 and 2. A
+// refusal writes nothing. Bytes after the file stay.
+pub fn write(sizes: &[u16], bodies: &[u8], room: &mut [u8]) -> Result<(), WriteFault>
     ensures { WriteOf sizes.now bodies.now room.old result room.new }
 {
-    if sizes.len() % 2 != 0 {
-        return WriteAnswer::Contents;
-    }
-    if sizes.len() == 0 {
-        return WriteAnswer::Contents;
-    }
-    if MOST_SIZES < sizes.len() {
-        return WriteAnswer::Contents;
+    if sizes.len() % 2 != 0 || sizes.len() == 0 || MOST_SIZES < sizes.len() {
+        return Err(WriteFault::Contents);
     }
     if bodies.len() != bodies_size(sizes) {
-        return WriteAnswer::Body;
+        return Err(WriteFault::Body);
     }
     let start = 2 + 6 * (sizes.len() / 2);
     let end = start + bodies.len();
     if MOST_BYTES < end {
-        return WriteAnswer::File;
+        return Err(WriteFault::File);
     }
     if room.len() < end {
-        return WriteAnswer::Room;
+        return Err(WriteFault::Room);
     }
     put_contents(sizes, room);
-    put_bodies(bodies, room, start);
-    WriteAnswer::Written
+    room[start..end].copy_from_slice(bodies);
+    Ok(())
 }

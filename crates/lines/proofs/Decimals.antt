@@ -1,5 +1,5 @@
 -- The digits of a number. In order:
---     by the size of the number      decimal_small, decimal_more; how many: decimal_one, decimal_longer, decimal_short
+--     by the size of the number      decimal_small, decimal_more; the library's: same_digits; how many: decimal_one, decimal_longer, decimal_short
 --     read back                      numbers_end, decimal_read; that digits tell their number is `decimal_tells` of LineLaws
 -- Assumes nothing.
 use mathlib.Core.Path.{◌≡◌, refl, sym, ap, ◌∙◌}
@@ -12,6 +12,8 @@ use native.Mathlib.Nat.{pow-zero, pow-suc}
 use native.Mathlib.Omega.{arith}
 use lib.ListN.{length, length-append}
 use borrow.Author.Tests.{lt-ltb, le-ltb}
+use Rattle.std.specs.Fmt.{decimal as written}
+use Rattle.std.proofs.lemmas.Fmt.{decimal_by_steps}
 use Rattle.lines.specs.Decimal.{digits, decimal, numbers_from}
 
 -- ---- by the size of the number
@@ -52,6 +54,12 @@ decimal_small x h = digits_small x x h
 pub decimal_more : (x : ℕ) → 10 ≤ x → decimal x ≡ decimal (x / 10) ++ ((48 + x % 10) ∷ [])
 unfolding decimal
 decimal_more x h = digits_more x x h ∙ ap (λ (l : List ℕ). l ++ ((48 + x % 10) ∷ [])) (digits_enough x (suc (x / 10)) (x / 10) (omega arith) (omega arith))
+
+-- what the library writes of a number are these digits
+pub same_digits : (x : ℕ) → x < 2 ^ 64 → written x ≡ decimal x
+same_digits x h =
+    decimal_by_steps (λ (n : ℕ) (bytes : List ℕ). bytes ≡ decimal n) (λ n small. sym (decimal_small n small))
+    (λ n bytes large same. ap (λ (l : List ℕ). l ++ ((48 + n % 10) ∷ [])) same ∙ sym (decimal_more n large)) x h
 
 -- how many digits there are
 pub decimal_one : (x : ℕ) → x < 10 → length (decimal x) ≡ 1

@@ -1,5 +1,5 @@
 -- Lines. In order:
---     one part after another      store_digit, store_digits, field-placed, line_first, line_more: what stores and copies leave
+--     one part after another      field-placed, line_word, line_first, line_more: what stores and copies leave
 --     a front lent on             line_counts
 --     read back                   job_line_read, variable_line_read, file_line_read: a line tells its numbers; decimal_tells
 --     what was put                line_written, copied_front, text_written
@@ -7,15 +7,15 @@
 -- Assumes nothing.
 use mathlib.Core.Path.{◌≡◌, refl, sym, ap, ap₂, ◌∙◌, subst}
 use mathlib.Core.List.{List, [], ◌∷◌, ◌++◌, append_assoc, append-nil}
-use Prim.Native.Nat.{ℕ, suc, ◌+◌, ◌/◌, ◌%◌, ◌≤◌, ◌<◌}
+use Prim.Native.Nat.{ℕ, suc, ◌+◌, ◌≤◌, ◌<◌}
 use native.Mathlib.Omega.{arith}
 use lib.ListN.{length, take, drop, get_or, set, length-append}
-use lib.Seq.{drop-cons, take_at, set_at, sets-eq, append_snoc, length-take-le}
+use lib.Seq.{drop-cons, take_at, set_at, append_snoc, length-take-le}
 use Rattle.rows.specs.Placed.{placed}
 use Rattle.rows.proofs.Laws.{behind_stays}
 use Rattle.lines.specs.Decimal.{decimal, numbers_from, numbers_in}
 use Rattle.lines.specs.Lines.{SPACE, NEWLINE, field, job_line, variable_line, file_line, LineIn, TextIn, Counts}
-use Rattle.lines.proofs.Decimals.{decimal_small, decimal_more, decimal_longer, numbers_end, decimal_read}
+use Rattle.lines.proofs.Decimals.{numbers_end, decimal_read}
 
 -- ---- one part after another
 
@@ -31,26 +31,6 @@ store_next at xs row v h =
     ∙ sym (append_snoc (take at row ++ xs) v (drop (suc n) row))
     ∙ ap₂ (λ (f : List ℕ) (i : ℕ). f ++ drop i row) (append_assoc (take at row) xs (v ∷ [])) end
 
--- the only digit
-pub store_digit : (x at : ℕ) (row : List ℕ) → x < 10 → at + length (decimal x) ≤ length row
-    → (at + 1 ≡ at + length (decimal x)) × (set row at (48 + x) ≡ placed at (decimal x) row)
-unfolding placed
-store_digit x at row h room =
-    let one : decimal x ≡ (48 + x) ∷ [] = decimal_small x h in
-    (omega (arith, ap length one), sets-eq ((48 + x) ∷ []) row at (omega (arith, ap length one)) ∙ ap (λ (l : List ℕ). placed at l row) (sym one))
-
--- the last digit, after the others
-pub store_digits : (x at next : ℕ) (row before : List ℕ) → 10 ≤ x → at + length (decimal x) ≤ length row → next ≡ at + length (decimal (x / 10)) → before ≡ placed at (decimal (x / 10)) row
-    → (next + 1 ≡ at + length (decimal x)) × (set before next (48 + x % 10) ≡ placed at (decimal x) row)
-store_digits x at next row before h room e built =
-    let more : decimal x ≡ decimal (x / 10) ++ ((48 + x % 10) ∷ []) = decimal_more x h in
-    let size : length (decimal x) ≡ length (decimal (x / 10)) + 1 = decimal_longer x h in (
-      omega arith,
-      ap₂ (λ (l : List ℕ) (i : ℕ). set l i (48 + x % 10)) built e
-          ∙ store_next at (decimal (x / 10)) row (48 + x % 10) (omega arith)
-          ∙ ap (λ (l : List ℕ). placed at l row) (sym more),
-    )
-
 -- the byte after a number
 pub field-placed : (x after at next : ℕ) (row before : List ℕ) → at + length (decimal x) < length row → next ≡ at + length (decimal x) → before ≡ placed at (decimal x) row
     → (next + 1 ≡ at + length (field x after)) × (set before next after ≡ placed at (field x after) row)
@@ -59,6 +39,10 @@ field-placed x after at next row before room e built = (
   omega (arith, length-append (decimal x) (after ∷ [])),
   ap₂ (λ (l : List ℕ) (i : ℕ). set l i after) built e ∙ store_next at (decimal x) row after room,
 )
+
+-- a word copied to the front
+pub line_word : (word row copied : List ℕ) → copied ≡ word → LineIn word row (length word) (copied ++ drop (length word) row)
+line_word word row copied same = record { long = refl; there = ap (λ (l : List ℕ). l ++ drop (length word) row) same }
 
 pub line_first : {next row after : List ℕ} {r : ℕ} → r ≡ 0 + length next → after ≡ placed 0 next row → LineIn next row r after
 unfolding placed

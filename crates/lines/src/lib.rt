@@ -1,17 +1,19 @@
-// The lines that the programs print, as bytes.
+// What the programs share: their input, and the lines that they print, as bytes.
 //
-// Each function puts a line over the front of a lent row, in which the longest line has room, and returns the line's length.
+// Each function of a line puts it over the front of a lent row, in which the longest line has room, and returns its length.
 // The bytes after it stay. No function asks anything of its caller.
 #![tactic(auto)]
 
 mod fields;
+mod input;
 
 ghost use Rattle.std.specs.Prelude.{◌≤◌};
-ghost use Rattle.jobfile.specs.Reader.{number_of, place_of};
+ghost use Rattle.jobfile.specs.Reader.{fault_number, fault_place};
 ghost use Rattle.lines.specs.Lines.{job_line, variable_line, file_line, header_line, line_room, LineIn, Counts};
 
-use jobfile::answers;
-use jobfile::answers::FileAnswer;
+use answering::answer::Answer;
+pub use input::read_to_fill;
+use jobfile::answers::FileFault;
 use words::numbers::{Address, Label};
 
 // No line is longer: four numbers of five digits, with a byte after each.
@@ -23,7 +25,7 @@ pub fn header_line(line: &mut [u8; LINE_ROOM]) -> usize
     ensures line_in { LineIn header_line line.old result line.new }
     ensures upper_bound { result ≤ line_room }
 {
-    rows::copy8(b"job answer place joins\n", line);
+    line[..23].copy_from_slice(b"job answer place joins\n");
     23
 }
 
@@ -45,21 +47,21 @@ pub fn variable_line(at: Address, label: Label, name: Address, line: &mut [u8; L
     ensures line_in { LineIn (variable_line at.0 label.0 name.0) line.old result line.new }
     ensures upper_bound { result ≤ line_room }
 {
-    rows::copy8(b"v ", line);
+    line[..2].copy_from_slice(b"v ");
     let second = fields::put_field(line, 2, at.0, b' ');
     let last = fields::put_field(line, second, label.0, b' ');
     fields::put_field(line, last, name.0, b'\n')
 }
 
-// `file`, then the number and the place of the answer by which a file is refused.
-pub fn file_line(answer: FileAnswer, line: &mut [u8; LINE_ROOM]) -> usize
+// `file`, then the number and the place of the refusal of a file.
+pub fn file_line(fault: FileFault, line: &mut [u8; LINE_ROOM]) -> usize
     ensures counts { Counts result line.new }
-    ensures line_in { LineIn (file_line (number_of answer) (place_of answer)) line.old result line.new }
+    ensures line_in { LineIn (file_line (fault_number fault) (fault_place fault)) line.old result line.new }
     ensures upper_bound { result ≤ line_room }
 {
-    let number = answers::file_number(answer);
-    let place = answers::file_place(answer);
-    rows::copy8(b"file ", line);
+    let number = fault.number();
+    let place = fault.place();
+    line[..5].copy_from_slice(b"file ");
     let last = fields::put_field(line, 5, number, b' ');
     fields::put_field(line, last, place, b'\n')
 }

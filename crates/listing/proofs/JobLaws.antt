@@ -13,8 +13,7 @@ use Rattle.answering.proofs.Orders.{passed_none}
 use Rattle.graphs.specs.Partition.{ClassTable, joins}
 use Rattle.table.specs.Table.{graph_of}
 use Rattle.table.specs.Faults.{sent, Fault, number, match_order}
-use Rattle.matcher.specs.Match.{number_of, place_of, joins_of, AcceptedWith, MatchOf}
-use Rattle.matcher.specs.declared.answer.Matched.{Matched}
+use Rattle.matcher.specs.Match.{Matched, number_of, place_of, joins_of, AcceptedWith, MatchOf}
 use Rattle.matcher.proofs.Verdicts.{ready}
 use Rattle.matcher.proofs.Demands.{accepted_passes}
 use Rattle.matcher.proofs.OneMatch.{refused_joins}

@@ -1,7 +1,5 @@
 // The lines of one job: its table and list are taken out of the file and matched, and the answer is told.
 ghost use Rattle.std.specs.Prelude.{◌≡◌, ◌≤◌, length};
-ghost use Rattle.jobfile.specs.File.{pairs_in};
-ghost use Rattle.jobfile.specs.Jobs.{entry_of, words_of, JobThere};
 ghost use Rattle.matcher.specs.Match.{number_of};
 ghost use Rattle.lines.specs.Lines.{line_room, LineIn, TextIn};
 ghost use Rattle.listing.specs.Listing.{JobListed};
@@ -9,73 +7,73 @@ ghost use Rattle.listing.specs.Parts.{job_at};
 ghost use Rattle.listing.specs.Steps.Putting.{job_room, Tellable, answer_line, AnswerTold, RowsForListing};
 
 use crate::variables;
+use jobfile::FoundJob;
 use lines::LINE_ROOM;
+use answering::answer::Answer;
 use matcher::answer;
-use matcher::answer::Matched;
+use matcher::answer::{Counts, Refusal};
 use words::limits::{MOST_BYTES, MOST_WORDS};
 
 // Puts the line of a job over the front of row, and returns its length.
-fn put_job(job: u16, answer: Matched, row: &mut [u8]) -> usize
+fn put_job(job: u16, answer: Result<Counts, Refusal>, row: &mut [u8]) -> usize
     requires { job_room ≤ length row.old }
     ensures { LineIn (answer_line job answer) row.old result row.new × (result ≤ line_room) }
 {
     let mut line = [0u8; LINE_ROOM];
     let size = lines::job_line(
         job,
-        answer::number(answer),
-        answer::place(answer),
+        answer.number(),
+        answer.place(),
         answer::joins(answer),
         &mut line,
     );
-    rows::copy8(&line[..size], row);
+    row[..size].copy_from_slice(&line[..size]);
     size
 }
 
 // The same, and after an accepted job the lines of its variables.
-fn put_answer(job: u16, answer: Matched, table: &[u32], class: &[u16], row: &mut [u8]) -> usize
+fn put_answer(job: u16, answer: Result<Counts, Refusal>, table: &[u32], class: &[u16], row: &mut [u8]) -> usize
     requires { (number_of answer ≡ 0 → Tellable table.now class.now) × (job_room ≤ length row.old) }
     ensures { AnswerTold job answer table.now class.now row.old result row.new × (result ≤ job_room) }
 {
     let size = put_job(job, answer, row);
-    if answer::number(answer) == 0 {
+    if answer.number() == 0 {
         return variables::put_variables(table, class, row, size);
     }
     size
 }
 
-// Matches the job in rows of just the right lengths, and tells it.
+// Matches a job in rows of just the right lengths, and tells it.
 fn match_job(
-    file: &[u8],
-    job: usize,
+    job: FoundJob<'_>,
     table: &mut [u32],
     list: &mut [u16],
     class: &mut [u16],
     work: &mut [u16],
     row: &mut [u8],
 ) -> usize
-    requires { RowsForListing file.now job table.old list.old class.old work.old row.old }
-    ensures { TextIn (JobListed job (job_at file.now job)) row.old result row.new × (result ≤ job_room) }
+    requires { RowsForListing job.file.now job.number table.old list.old class.old work.old row.old }
+    ensures { TextIn (JobListed job.entry.number (job_at job.entry.file.now job.entry.number)) row.old result row.new × (result ≤ job_room) }
 {
-    jobfile::take_job(file, job, table, list);
+    jobfile::take_job(job, table, list);
     let answer = matcher::match_list(table, list, class, work);
-    put_answer(job as u16, answer, table, class, row)
+    put_answer(job.number as u16, answer, table, class, row)
 }
 
-// The lines of the job of n words and p pairs. The rows are new for each job, so nothing of the last one is there, and have room
-// for all words and all addresses that a file can hold.
-pub(crate) fn put_job_lines(file: &[u8], job: usize, n: usize, p: usize, row: &mut [u8]) -> usize
-    requires { JobThere file.now job × (n ≡ words_of file.now job) × (p ≡ pairs_in file.now (entry_of job)) × (job_room ≤ length row.old) }
-    ensures { TextIn (JobListed job (job_at file.now job)) row.old result row.new × (result ≤ job_room) }
+// The lines of a job. The rows are new for each job, so nothing of the last one is there, and have room for all words and all
+// addresses that a file can hold.
+pub(crate) fn put_job_lines(job: FoundJob<'_>, row: &mut [u8]) -> usize
+    requires { job_room ≤ length row.old }
+    ensures { TextIn (JobListed job.entry.number (job_at job.entry.file.now job.entry.number)) row.old result row.new × (result ≤ job_room) }
 {
     let mut table = [0u32; MOST_BYTES / 4];
     let mut list = [0u16; MOST_BYTES / 2];
     let mut class = [0u16; MOST_WORDS];
     let mut work = [0u16; 4 * MOST_WORDS];
-    let entries = 2 * p;
+    let entries = 2 * job.pairs;
     match_job(
-        file,
         job,
-        &mut table[..n],
+        &mut table[..job.words],
         &mut list[..entries],
         &mut class,
         &mut work,

@@ -12,6 +12,7 @@ ghost use Rattle.std.specs.Prelude.{◌≤◌, length};
 
 use lines::LINE_ROOM;
 use parts::JOB_ROOM;
+use std::io;
 use std::io::Read;
 use std::process::ExitCode;
 use words::limits::MOST_BYTES;
@@ -31,39 +32,34 @@ fn read_input(rt: &HostRuntime, file: &mut [u8]) -> usize
     size
 }
 
-// Writes the first line, and says whether all of it was written.
-fn write_first_line(rt: &HostRuntime, file: &[u8]) -> bool {
+// Writes the first line.
+fn write_first_line(rt: &HostRuntime, file: &[u8]) -> io::Result<()> {
     let mut line = [0u8; LINE_ROOM];
     let size = parts::first_line(file, &mut line);
-    rt.write_all(&line[..size]).is_ok()
+    rt.write_all(&line[..size])
 }
 
-// The same for the lines of the job of a number.
-fn write_job(rt: &HostRuntime, file: &[u8], job: usize) -> bool {
+// Writes the lines of the job of a number.
+fn write_job(rt: &HostRuntime, file: &[u8], job: usize) -> io::Result<()> {
     let mut lines = [0u8; JOB_ROOM];
     let size = parts::job_lines(file, job, &mut lines);
-    rt.write_all(&lines[..size]).is_ok()
+    rt.write_all(&lines[..size])
 }
 
-// The same for the whole listing, part after part. It stops at the first part that was not written to its end.
-fn write_listing(rt: &HostRuntime, file: &[u8]) -> bool {
-    if !write_first_line(rt, file) {
-        return false;
+// Writes the whole listing, part after part. It stops at the first part that was not written to its end.
+fn write_listing(rt: &HostRuntime, file: &[u8]) -> io::Result<()> {
+    write_first_line(rt, file)?;
+    for job in 1..=parts::jobs(file) {
+        write_job(rt, file, job)?;
     }
-    let jobs = parts::jobs(file);
-    for job in 1..=jobs {
-        if !write_job(rt, file, job) {
-            return false;
-        }
-    }
-    true
+    Ok(())
 }
 
 // A file has at most 32,768 bytes; one byte more is read, so that a longer one is refused and not cut short.
 fn main(rt: HostRuntime) -> ExitCode {
     let mut file = [0u8; MOST_BYTES + 1];
     let size = read_input(&rt, &mut file);
-    if write_listing(&rt, &file[..size]) {
+    if write_listing(&rt, &file[..size]).is_ok() {
         return ExitCode::SUCCESS;
     }
     let _ = rt.eprint("station-listing: the listing was not written to its end\n");

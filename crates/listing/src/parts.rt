@@ -4,7 +4,6 @@ ghost use Rattle.lines.specs.Lines.{TextIn, Counts};
 ghost use Rattle.listing.specs.Parts.{FirstLine, JobsTold, JobPart};
 
 use crate::job;
-use jobfile::answers;
 use lines::LINE_ROOM;
 use words::limits::MOST_WORDS;
 
@@ -16,19 +15,17 @@ pub(crate) fn first_line(file: &[u8], line: &mut [u8; LINE_ROOM]) -> usize
     ensures counts { Counts result line.new }
     ensures text_in { TextIn (FirstLine file.now) line.old result line.new }
 {
-    let answer = jobfile::judge(file);
-    if answers::file_number(answer) == 0 {
-        return lines::header_line(line);
+    match jobfile::judge(file) {
+        Ok(()) => lines::header_line(line),
+        Err(fault) => lines::file_line(fault, line),
     }
-    lines::file_line(answer, line)
 }
 
 // How many jobs there are to tell: none of a refused file.
 pub(crate) fn jobs(file: &[u8]) -> usize
     ensures { JobsTold file.now result }
 {
-    let read = jobfile::read(file);
-    read.sizes.count / 2
+    jobfile::read(file).sizes.count / 2
 }
 
 // The line of the job of a number, from 1, and after an accepted one a line for each variable of its table; nothing where there
@@ -37,16 +34,8 @@ pub(crate) fn job_lines(file: &[u8], number: usize, lines: &mut [u8; JOB_ROOM]) 
     ensures counts { Counts result lines.new }
     ensures text_in { TextIn (JobPart file.now number) lines.old result lines.new }
 {
-    let read = jobfile::read(file);
-    let sizes = read.sizes;
-    let row = sizes.row;
-    if number == 0 {
-        return 0;
+    match jobfile::find(file, number) {
+        Ok(job) => job::put_job_lines(job, lines),
+        Err(_) => 0,
     }
-    if sizes.count / 2 < number {
-        return 0;
-    }
-    let n = row[2 * (number - 1)] as usize;
-    let p = row[2 * (number - 1) + 1] as usize;
-    job::put_job_lines(file, number, n, p, lines)
 }

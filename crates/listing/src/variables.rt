@@ -44,10 +44,8 @@ pub(crate) fn put_variables(table: &[u32], class: &[u16], row: &mut [u8], start:
     ensures { PutAt (variable_lines table.now class.now) start row.old result row.new × (result ≤ job_room) }
 {
     let mut at = start;
-    let mut x = 0;
-    while x < table.len() {
+    for x in 0..table.len() {
         at = put_line(table, class, x, row, at);
-        x += 1;
     }
     at
 }

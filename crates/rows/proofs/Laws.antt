@@ -2,7 +2,7 @@
 --
 -- In order:
 --     numbers as bytes          length-bytes_of, number_bytes_of, number_below, bytes_of_number
---     a number byte by byte     fetched, number_at-fetched (a read); placed-sets (a write)
+--     a number byte by byte     fetched, number_at-fetched, from_bytes-fetched (a read); placed-sets (a write)
 --     a row put over a part     length-placed, number_at-placed, number_at-placed_before, number_at-placed_after
 --     a row from the front      Built, built_none, built_more, built_all: every loop that clears, fills or copies
 --     by the library's methods  filled_front, filled_whole (`fill`); copied_front, copied_within (`copy_from_slice`); front_placed
@@ -69,6 +69,11 @@ number_at-fetched (suc k) at bytes h =
     let first : at < length bytes = omega arith in
     let rest : number_at k (suc at) bytes ≡ fetched k (suc at) bytes = number_at-fetched k (suc at) bytes (omega arith) in
     rw (drop-cons bytes at 0 first) (ap (λ (n : ℕ). get_or bytes at 0 + 256 * n) rest)
+
+-- the same of k bytes that are a row of their own
+pub from_bytes-fetched : (k : ℕ) (bytes : List ℕ) → length bytes ≡ k → from_bytes bytes ≡ fetched k 0 bytes
+unfolding number_at
+from_bytes-fetched k bytes h = ap from_bytes (sym (take_all k bytes (omega arith))) ∙ number_at-fetched k 0 bytes (omega arith)
 
 -- one store for each of k bytes. At a numeral k its left side computes to the stores of straight-line code
 pub placed-sets : (k x at : ℕ) (row : List ℕ) → at + k ≤ length row → sets row at (bytes_of k x) ≡ placed at (bytes_of k x) row

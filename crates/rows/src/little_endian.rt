@@ -1,28 +1,63 @@
 // Numbers in a row of bytes. Document 01, 'The job file': "All numbers are little-endian, 16 bits except table words."
-ghost use Rattle.std.specs.Prelude.{◌≡◌, ◌+◌, ◌≤◌, ◌<◌, length, get_or};
-ghost use Rattle.rows.specs.LittleEndian.{number_at, bytes_of};
+ghost use Rattle.std.specs.Prelude.{◌≡◌, ℕ, ◌+◌, ◌≤◌, ◌<◌, length};
+ghost use Rattle.std.proofs.Common.{lit<};
+ghost use Rattle.rows.specs.LittleEndian.{from_bytes, number_at, bytes_of};
 ghost use Rattle.rows.specs.Placed.{placed};
 
-// Returns the number that the 2 bytes from place `at` on make.
-pub fn read16(bytes: &[u8], at: usize) -> u16
-    requires { at + 2 ≤ length bytes.now }
-    ensures { result ≡ number_at 2 at bytes.now }
-{
-    let low = byte(bytes, at);
-    let high = byte(bytes, at + 1);
-    (low + 256 * high) as u16
+// A number that stands in a row of bytes, the low byte first.
+pub trait LittleEndian: Copy {
+    // How many bytes it has.
+    const WIDTH: usize;
+
+    ghost WIDTH: { ℕ };
+
+    // The value of this type that a number is.
+    ghost of_number: { ℕ → Self };
+
+    // Returns the number that all of its bytes make.
+    fn from_bytes(bytes: &[u8]) -> Self
+        requires { length bytes.now ≡ WIDTH }
+        ensures { result ≡ of_number (from_bytes bytes.now) };
+
+    ghost some_bytes: { 0 < WIDTH };
 }
 
-// Returns the number that the 4 bytes from place `at` on make: a table word.
-pub fn read32(bytes: &[u8], at: usize) -> u32
-    requires { at + 4 ≤ length bytes.now }
-    ensures { result ≡ number_at 4 at bytes.now }
+// An address, a label, a size or a count.
+impl LittleEndian for u16 {
+    const WIDTH: usize = 2;
+
+    ghost WIDTH = { 2 };
+
+    ghost of_number = { λ x. x };
+
+    fn from_bytes(bytes: &[u8]) -> u16 {
+        u16::from_le_bytes([bytes[0], bytes[1]])
+    }
+
+    ghost some_bytes = { lit< tt };
+}
+
+// A table word.
+impl LittleEndian for u32 {
+    const WIDTH: usize = 4;
+
+    ghost WIDTH = { 4 };
+
+    ghost of_number = { λ x. x };
+
+    fn from_bytes(bytes: &[u8]) -> u32 {
+        u32::from_le_bytes([bytes[0], bytes[1], bytes[2], bytes[3]])
+    }
+
+    ghost some_bytes = { lit< tt };
+}
+
+// Returns the number of a type that stands in the bytes from place `at` on.
+pub fn read<T: LittleEndian>(bytes: &[u8], at: usize) -> T
+    requires { at + T.WIDTH ≤ length bytes.now }
+    ensures { result ≡ T.of_number (number_at T.WIDTH at bytes.now) }
 {
-    let first = byte(bytes, at);
-    let second = byte(bytes, at + 1);
-    let third = byte(bytes, at + 2);
-    let fourth = byte(bytes, at + 3);
-    first + 256 * second + 65536 * third + 16777216 * fourth
+    T::from_bytes(&bytes[at..at + T::WIDTH])
 }
 
 // Puts x into the 2 bytes from place `at` on. The other bytes stay.
@@ -30,15 +65,5 @@ pub fn write16(bytes: &mut [u8], at: usize, x: u16)
     requires { at + 2 ≤ length bytes.old }
     ensures { bytes.new ≡ placed at (bytes_of 2 x) bytes.old }
 {
-    bytes[at] = (x % 256) as u8;
-    bytes[at + 1] = (x / 256 % 256) as u8;
-}
-
-// Returns the byte at place `at`, wide enough to compute with. That it is below 256 is said too, so that no caller has
-// to show it.
-fn byte(bytes: &[u8], at: usize) -> u32
-    requires { at < length bytes.now }
-    ensures { (result ≡ get_or bytes.now at 0) × (result < 256) }
-{
-    bytes[at] as u32
+    bytes[at..at + 2].copy_from_slice(&x.to_le_bytes());
 }

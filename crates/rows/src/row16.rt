@@ -15,9 +15,5 @@ pub fn clear16(row: &mut [u16], n: usize)
     requires { n ≤ length row.old }
     ensures { row.new ≡ zeroed n row.old }
 {
-    let mut i = 0;
-    while i < n {
-        row[i] = 0;
-        i += 1;
-    }
+    row[..n].fill(0);
 }

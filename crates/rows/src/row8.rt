@@ -6,9 +6,5 @@ pub fn copy8(from: &[u8], into: &mut [u8])
     requires { length from.now ≤ length into.old }
     ensures { into.new ≡ from.now ++ drop (length from.now) into.old }
 {
-    let mut i = 0;
-    while i < from.len() {
-        into[i] = from[i];
-        i += 1;
-    }
+    into[..from.len()].copy_from_slice(from);
 }

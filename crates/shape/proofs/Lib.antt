@@ -1,5 +1,4 @@
--- Laws of the three scans, and that the layout scan's contract allows one answer.
+-- Laws of the three scans.
 pub mod LayoutLaws
-pub mod OneBreak
 pub mod Search
 pub mod WordLaws

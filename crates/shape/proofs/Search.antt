@@ -4,13 +4,15 @@
 --   passed_more    .. one more
 --   found_here     the number at which the test passes is the first
 --   found_nowhere  all fail
+--   found_in_range the library's `find` over the numbers below n
 -- Assumes nothing.
 use mathlib.Core.Path.{◌≡◌, sym, ◌∙◌}
 use mathlib.Core.Bool.{Bool, true, false}
 use Prim.Native.Nat.{ℕ, ◌+◌, ◌≤◌, ◌<◌}
 use native.Mathlib.Omega.{arith}
 use borrow.Author.Count.{below_more}
-use Rattle.answering.specs.Answers.{First}
+use Rattle.std.specs.Prelude.{Option, None, Some, MatchOption}
+use Rattle.answering.specs.Answers.{First, Found}
 
 pub record Passed (test : ℕ → Bool) (n i : ℕ) : Type 0 where
   pub within : i ≤ n
@@ -27,3 +29,10 @@ found_here p e f = record { within = p.within; before = p.before; passes = λ h.
 
 pub found_nowhere : {test : ℕ → Bool} {n i : ℕ} → Passed test n i → n ≤ i → First test n i
 found_nowhere p h = record { within = p.within; before = p.before; passes = λ k. absurd (omega arith) }
+
+pub found_in_range :
+    (test : ℕ → Bool) (n : ℕ) (r : Option ℕ) →
+    MatchOption r ((k : ℕ) → 0 ≤ k → k < n → test k ≡ false) (λ i. (0 ≤ i) × (i < n) × (test i ≡ true) × ((k : ℕ) → 0 ≤ k → k < i → test k ≡ false)) →
+    Found test n r
+found_in_range test n None none = λ j h. none j (omega arith) h
+found_in_range test n (Some i) (from, below, passes, before) = (below, passes, λ j h. before j (omega arith) h)

@@ -1,3 +1,3 @@
--- What a reader must believe of the layout scan (Layout). Steps has what its private steps promise each other.
-pub mod Layout
+-- Nothing here need be believed of this crate: its contracts speak in the words of the crates below. Steps has what its private steps
+-- promise each other.
 pub mod Steps

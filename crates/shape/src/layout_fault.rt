@@ -1,8 +1,7 @@
 // Answer 4, LAYOUT: the row of items breaks. "From address 1 on, the table is a row of items: a
 // variable, a constant, or a block."
 ghost use Rattle.std.specs.Prelude.{◌≡◌, drop};
-ghost use Rattle.table.specs.Layout.{item, can_stand, less, more as more_of, after as after_word, at_end, break_from};
-ghost use Rattle.shape.specs.Layout.{break_of};
+ghost use Rattle.table.specs.Layout.{item, can_stand, more as more_of, after as after_word, at_end, break_from};
 ghost use Rattle.shape.specs.Steps.Wanted.{wanted_of};
 
 use words::kind::Kind;
@@ -16,29 +15,15 @@ enum Wanted {
     Arguments(u16),
 }
 
-// The row of items from address 1 on: whole, or broken at the first word that cannot stand there, and
-// at the table's length if a block runs past the end.
-#[derive(Clone, Copy)]
-pub enum RowOfItems {
-    Whole,
-    BreaksAt(usize),
-}
-
 // Whether a word of this kind can stand where `wanted` may.
 fn can_stand(wanted: Wanted, kind: Kind) -> bool
     ensures { result ≡ can_stand (wanted_of wanted) kind }
 {
     match wanted {
         Wanted::Item => kind::is_node(kind),
-        Wanted::Count => { if let Kind::Count = kind { true } else { false } }
+        Wanted::Count => kind == Kind::Count,
         Wanted::Arguments(_) => kind::is_argument(kind),
     }
-}
-
-fn one_less(count: u16) -> u16
-    ensures { result ≡ less count }
-{
-    if count == 0 { 0 } else { count - 1 }
 }
 
 // What may stand next, by the number of arguments still to come.
@@ -57,42 +42,35 @@ fn after(wanted: Wanted, word: u32) -> Wanted
     ensures { wanted_of result ≡ after_word (wanted_of wanted) word }
 {
     match wanted {
-        Wanted::Item => {
-            if let Kind::Function = word::kind(word) {
-                Wanted::Count
-            } else {
-                Wanted::Item
-            }
-        }
+        Wanted::Item if word::kind(word) == Kind::Function => Wanted::Count,
+        Wanted::Item => Wanted::Item,
         Wanted::Count => more(word::content(word)),
-        Wanted::Arguments(left) => more(one_less(left)),
+        Wanted::Arguments(left) => more(left.saturating_sub(1)),
     }
 }
 
 // The end of the table, at address `at`: it can stand where an item may.
-fn end(wanted: Wanted, at: usize) -> RowOfItems
-    ensures { break_of result ≡ at_end (wanted_of wanted) at }
+fn end(wanted: Wanted, at: usize) -> Option<usize>
+    ensures { result ≡ at_end (wanted_of wanted) at }
 {
     match wanted {
-        Wanted::Item => RowOfItems::Whole,
-        Wanted::Count => RowOfItems::BreaksAt(at),
-        Wanted::Arguments(_) => RowOfItems::BreaksAt(at),
+        Wanted::Item => None,
+        Wanted::Count | Wanted::Arguments(_) => Some(at),
     }
 }
 
-// Where the row of items breaks.
-pub fn layout_break(table: &[u32]) -> RowOfItems
-    ensures { break_of result ≡ break_from item 1 (drop 1 table.now) }
+// Where the row of items breaks, if it does: at the first word that cannot stand there, and at the
+// table's length if a block runs past the end.
+pub fn layout_break(table: &[u32]) -> Option<usize>
+    ensures { result ≡ break_from item 1 (drop 1 table.now) }
 {
     let mut wanted = Wanted::Item;
-    let mut at = 1;
-    while at < table.len() {
+    for at in 1..table.len() {
         let word = table[at];
         if !can_stand(wanted, word::kind(word)) {
-            return RowOfItems::BreaksAt(at);
+            return Some(at);
         }
         wanted = after(wanted, word);
-        at += 1;
     }
-    end(wanted, at)
+    end(wanted, table.len())
 }

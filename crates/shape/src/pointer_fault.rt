@@ -1,6 +1,6 @@
 // Answer 5, POINTER: "it names 0, an address of n or more, a pointer or a count".
 ghost use Rattle.std.specs.Prelude.{◌≡◌, ◌<◌, length};
-ghost use Rattle.answering.specs.Answers.{First};
+ghost use Rattle.answering.specs.Answers.{Found};
 ghost use Rattle.table.specs.Faults.{bad_target, bad_pointer};
 
 use words::kind::Kind;
@@ -12,16 +12,7 @@ pub fn is_bad_target(table: &[u32], target: Address) -> bool
     ensures { result ≡ bad_target table.now target.0 }
 {
     let at = target.0 as usize;
-    if at == 0 {
-        return true;
-    }
-    if table.len() <= at {
-        return true;
-    }
-    match word::kind(table[at]) {
-        Kind::Pointer | Kind::Count => true,
-        _ => false,
-    }
+    at == 0 || table.len() <= at || matches!(word::kind(table[at]), Kind::Pointer | Kind::Count)
 }
 
 // Whether the word at an address is a bad pointer.
@@ -30,23 +21,12 @@ fn is_bad_pointer(table: &[u32], at: usize) -> bool
     ensures { result ≡ bad_pointer table.now at }
 {
     let word = table[at];
-    if let Kind::Pointer = word::kind(word) {
-        is_bad_target(table, word::address(word))
-    } else {
-        false
-    }
+    word::kind(word) == Kind::Pointer && is_bad_target(table, word::address(word))
 }
 
-// The lowest address of a bad pointer, or the table's length where there is none.
-pub fn first_bad_pointer(table: &[u32]) -> usize
-    ensures { First (bad_pointer table.now) (length table.now) result }
+// The lowest address of a bad pointer.
+pub fn first_bad_pointer(table: &[u32]) -> Option<usize>
+    ensures { Found (bad_pointer table.now) (length table.now) result }
 {
-    let mut at = 0;
-    while at < table.len() {
-        if is_bad_pointer(table, at) {
-            return at;
-        }
-        at += 1;
-    }
-    at
+    (0..table.len()).find(|&at| is_bad_pointer(table, at))
 }

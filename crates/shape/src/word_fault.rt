@@ -1,7 +1,7 @@
 // Answer 3, WORD: "word 0 is not 0; a later tag is not in the table; a high bit is set; a count is 0
 // or over 255".
 ghost use Rattle.std.specs.Prelude.{◌≡◌, ◌<◌, length};
-ghost use Rattle.answering.specs.Answers.{First};
+ghost use Rattle.answering.specs.Answers.{Found};
 ghost use Rattle.table.specs.Faults.{bad_kind, bad_word};
 
 use words::kind::Kind;
@@ -31,16 +31,9 @@ fn is_bad_word(table: &[u32], at: usize) -> bool
     is_bad_kind(word::kind(word), word::content(word))
 }
 
-// The lowest address of a bad word, or the table's length where there is none.
-pub fn first_bad_word(table: &[u32]) -> usize
-    ensures { First (bad_word table.now) (length table.now) result }
+// The lowest address of a bad word.
+pub fn first_bad_word(table: &[u32]) -> Option<usize>
+    ensures { Found (bad_word table.now) (length table.now) result }
 {
-    let mut at = 0;
-    while at < table.len() {
-        if is_bad_word(table, at) {
-            return at;
-        }
-        at += 1;
-    }
-    at
+    (0..table.len()).find(|&at| is_bad_word(table, at))
 }

@@ -4,7 +4,7 @@
 -- Assumes nothing.
 use mathlib.Core.Bool.{Bool, true, false, not}
 use mathlib.Core.List.{List, [], ◌∷◌}
-use mathlib.Core.Option.{Option, none, some}
+use Rattle.std.specs.Prelude.{Option, None, Some}
 use Prim.Native.Nat.{ℕ, ◌+◌}
 use lib.Dec.{eqb, leb, ltb}
 use lib.ListN.{length, take, drop}
@@ -22,8 +22,8 @@ use Rattle.sheet.specs.Sheet.{Example}
 -- ---- the test of a table
 
 unfoldable pub is_none : Option ℕ → Bool
-is_none none = true
-is_none (some a) = false
+is_none None = true
+is_none (Some a) = false
 
 unfoldable pub repeats_at : List ℕ → ℕ → ℕ → Bool
 repeats_at t a b =

@@ -5,7 +5,7 @@ use mathlib.Core.Path.{◌≡◌, refl, sym, ap, ◌∙◌, subst}
 use mathlib.Core.Bool.{Bool, true, false, not}
 use mathlib.Core.Logic.{inl, ⊎_elim}
 use mathlib.Core.List.{List, [], ◌∷◌, ◌++◌, Memᴰ}
-use mathlib.Core.Option.{Option, none, some}
+use Rattle.std.specs.Prelude.{Option, None, Some}
 use Prim.Native.Nat.{ℕ, ◌+◌, ◌*◌, ◌≤◌, ◌<◌}
 use native.Mathlib.Omega.{arith}
 use borrow.Author.Tests.{eq-eqb, ne_eqb, eqb-true, leb-true, ltb-true, not-true}
@@ -39,10 +39,10 @@ use Rattle.sheet.proofs.Certified.{is_none, repeats_at, good_table, good_list, R
 fails : {b : Bool} → not b ≡ true → b ≡ true → ⊥
 fails {b} f e = let g : b ≡ false = not-true b f in never (cc)
 
-is_none_lem : (o : Option ℕ) → is_none o ≡ true → o ≡ none
+is_none_lem : (o : Option ℕ) → is_none o ≡ true → o ≡ None
 unfolding is_none
-is_none_lem none e = refl
-is_none_lem (some a) e = never (cc)
+is_none_lem None e = refl
+is_none_lem (Some a) e = never (cc)
 
 same_row_lem : (xs ys : List ℕ) → same_row xs ys ≡ true → xs ≡ ys
 unfolding same_row

@@ -13,8 +13,7 @@ use Rattle.graphs.proofs.Theorems.{class_table_only}
 use Rattle.table.specs.Table.{graph_of}
 use Rattle.checker.specs.Check.{Checked, number_of as check_number, place_of as check_place, joins_of as check_joins}
 use Rattle.checker.proofs.OneCheck.{check_only}
-use Rattle.matcher.specs.Match.{number_of, place_of, joins_of}
-use Rattle.matcher.specs.declared.answer.Matched.{Matched}
+use Rattle.matcher.specs.Match.{Matched, number_of, place_of, joins_of}
 use Rattle.matcher.proofs.OneMatch.{match_only}
 use Rattle.jobfile.specs.Faults.{FileRow, ROOM, FILE, CONTENTS, BODY, file_number, read_order}
 use Rattle.jobfile.specs.Writer.{number_of as write_number}

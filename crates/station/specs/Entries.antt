@@ -2,8 +2,7 @@
 -- Assumes nothing.
 use Rattle.std.specs.Prelude.{◌≡◌, List, ℕ}
 use Rattle.checker.specs.Check.{Checked, CheckOf, number_of as check_number, place_of as check_place, joins_of as check_joins}
-use Rattle.matcher.specs.Match.{MatchOf, number_of, place_of, joins_of}
-use Rattle.matcher.specs.declared.answer.Matched.{Matched}
+use Rattle.matcher.specs.Match.{Matched, MatchOf, number_of, place_of, joins_of}
 use Rattle.jobfile.specs.Writer.{WriteOf, number_of as write_number}
 use Rattle.jobfile.specs.declared.answers.WriteAnswer.{WriteAnswer}
 use Rattle.host.specs.AsOne.{as_one}

@@ -26,14 +26,15 @@ pub fn station_match(file: &[u8], job: u32, room: &mut [u8]) -> u16
 pub fn station_lent(table: &[u32], list: &[u16], class: &mut [u16], work: &mut [u16]) -> u64
     ensures { LentOf table.now list.now class.old work.old result class.new work.new }
 {
-    host::matched::as_one(matcher::match_list(table, list, class, work))
+    let answer = matcher::match_list(table, list, class, work);
+    host::as_one(answer, matcher::answer::joins(answer))
 }
 
 // The same of the table check by itself. Its joins is 0.
 pub fn station_check(table: &[u32], class: &mut [u16], work: &mut [u16]) -> u64
     ensures { CheckedOf table.now class.old work.old result class.new work.new }
 {
-    host::checked::as_one(checker::check(table, class, work))
+    host::as_one(checker::check(table, class, work), 0)
 }
 
 // The writer's number.

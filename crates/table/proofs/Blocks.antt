@@ -5,7 +5,7 @@
 use mathlib.Core.Path.{◌≡◌, refl, sym, ap, ◌∙◌, subst}
 use mathlib.Core.Bool.{Bool, true, false, cond, true≢false}
 use mathlib.Core.List.{List, [], ◌∷◌}
-use mathlib.Core.Option.{Option, none, some}
+use Rattle.std.specs.Prelude.{Option, None, Some}
 use Prim.Native.Nat.{ℕ, zero, suc, ◌+◌, ◌≤◌, ◌<◌}
 use native.Mathlib.Omega.{arith}
 use lib.ListN.{length, get_or}
@@ -20,12 +20,12 @@ use Rattle.table.specs.Layout.{Wanted, item, count, arguments, more, can_stand, 
 pub break_stands : (wanted : Wanted) (a w : ℕ) (rest : List ℕ) → can_stand wanted (kind_of w) ≡ true → break_from wanted a (w ∷ rest) ≡ break_from (after wanted w) (a + 1) rest
 unfolding break_from
 break_stands wanted a w rest e =
-    ap (λ (b : Bool). elim b as (λ _. Option ℕ) [ true ↦ break_from (after wanted w) (a + 1) rest | false ↦ some a ]) e
+    ap (λ (b : Bool). elim b as (λ _. Option ℕ) [ true ↦ break_from (after wanted w) (a + 1) rest | false ↦ Some a ]) e
 
-pub break_stops : (wanted : Wanted) (a w : ℕ) (rest : List ℕ) → can_stand wanted (kind_of w) ≡ false → break_from wanted a (w ∷ rest) ≡ some a
+pub break_stops : (wanted : Wanted) (a w : ℕ) (rest : List ℕ) → can_stand wanted (kind_of w) ≡ false → break_from wanted a (w ∷ rest) ≡ Some a
 unfolding break_from
 break_stops wanted a w rest e =
-    ap (λ (b : Bool). elim b as (λ _. Option ℕ) [ true ↦ break_from (after wanted w) (a + 1) rest | false ↦ some a ]) e
+    ap (λ (b : Bool). elim b as (λ _. Option ℕ) [ true ↦ break_from (after wanted w) (a + 1) rest | false ↦ Some a ]) e
 
 -- the kind of the word at a place of a row
 abbrev kind_in : List ℕ → ℕ → Kind
@@ -114,15 +114,15 @@ function_first (arguments j) w rest e f b = absurd (true≢false (sym e ∙ ap (
 
 -- ---- the row
 
-pub whole_begins : (row : List ℕ) (wanted : Wanted) (a : ℕ) → break_from wanted a row ≡ none → Begins wanted row × Blocks row
+pub whole_begins : (row : List ℕ) (wanted : Wanted) (a : ℕ) → break_from wanted a row ≡ None → Begins wanted row × Blocks row
 unfolding break_from at_end kind_of
 whole_begins [] item a e = (tt, λ x f. never (cc))
 whole_begins [] count a e = never (cc)
 whole_begins [] (arguments k) a e = never (cc)
 whole_begins (w ∷ rest) wanted a e = go (can_stand wanted (kind_of w)) refl (λ q. whole_begins rest (after wanted w) (a + 1) q)
   where
-    go : (b : Bool) → can_stand wanted (kind_of w) ≡ b → (break_from (after wanted w) (a + 1) rest ≡ none → Begins (after wanted w) rest × Blocks rest) → Begins wanted (w ∷ rest) × Blocks (w ∷ rest)
-    go false s ih = let q : some a ≡ none = sym (break_stops wanted a w rest s) ∙ e in never (cc)
+    go : (b : Bool) → can_stand wanted (kind_of w) ≡ b → (break_from (after wanted w) (a + 1) rest ≡ None → Begins (after wanted w) rest × Blocks rest) → Begins wanted (w ∷ rest) × Blocks (w ∷ rest)
+    go false s ih = let q : Some a ≡ None = sym (break_stops wanted a w rest s) ∙ e in never (cc)
     go true s ih =
         let below : Begins (after wanted w) rest × Blocks rest = ih (sym (break_stands wanted a w rest s) ∙ e) in
         (begins wanted w rest s below.0, at below)

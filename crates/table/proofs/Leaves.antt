@@ -7,7 +7,6 @@ use lib.ListN.{length, get_or-eq_default}
 use Rattle.words.specs.Word.{same_kind, kind_of}
 use Rattle.words.specs.declared.kind.Kind.{Kind}
 use Rattle.words.specs.declared.kind.Kind.TheVariants.{NoWord}
-use Rattle.words.specs.declared.numbers.Label.{Label}
 use Rattle.words.proofs.WordLaws.{same_kind_exactly}
 use Rattle.words.proofs.KindLaws.{other_kind}
 use Rattle.table.specs.Table.{choose, kind_at}
@@ -25,6 +24,3 @@ picked {A} {read} {k} {j} {x} y e f g = g ∙ sym (ap (λ (b : Bool). choose b x
 pub passed : {A : Type 0} {read k j : Kind} {y r : A} (x : A) → read ≡ k → (read ≡ j → ⊥) → r ≡ y → r ≡ choose (same_kind k j) x y
 unfolding choose
 passed {A} {read} {k} {j} {y} x e other g = g ∙ sym (ap (λ (b : Bool). choose b x y) (other_kind k j (λ f. other (e ∙ f))))
-
-pub as_label : {l : Label} {n : ℕ} → l.0 ≡ n → l ≡ record { 0 = n }
-as_label e = λ i. record { 0 = e i }

@@ -3,7 +3,7 @@
 use mathlib.Core.Path.{◌≡◌, refl, sym, ap, ◌∙◌}
 use mathlib.Core.Bool.{true}
 use mathlib.Core.List.{List}
-use mathlib.Core.Option.{some}
+use Rattle.std.specs.Prelude.{Some}
 use Prim.Native.Nat.{ℕ, ◌+◌, ◌≤◌, ◌<◌}
 use native.Mathlib.Decide.{dec_le}
 use native.Mathlib.Omega.{arith}
@@ -30,7 +30,7 @@ module _ (job : Job) where
   fault_once row p q (size_fault a) (size_fault b) = refl
   fault_once row p q (room_fault a) (room_fault b) = refl
   fault_once row p q (word_fault a) (word_fault b) = lowest_only a b
-  fault_once row p q (layout_fault a) (layout_fault b) = let e : some p ≡ some q = sym a ∙ b in cc
+  fault_once row p q (layout_fault a) (layout_fault b) = let e : Some p ≡ Some q = sym a ∙ b in cc
   fault_once row p q (pointer_fault a) (pointer_fault b) = lowest_only a b
   fault_once row p q (name_fault a) (name_fault b) = lowest_only a b
   fault_once row p q (loop_fault x a) (loop_fault y b) = refl

@@ -4,7 +4,7 @@ use mathlib.Core.Path.{◌≡◌, refl, sym, ap, ◌∙◌}
 use mathlib.Core.Bool.{true≢false}
 use mathlib.Core.List.{List, [], ◌∷◌}
 use mathlib.Core.Logic.{inl, inr}
-use mathlib.Core.Option.{Option, none, some}
+use Rattle.std.specs.Prelude.{Option, None, Some}
 use Prim.Native.Nat.{ℕ, suc, ◌≤◌, ◌<◌}
 use native.Mathlib.Omega.{arith}
 use lib.ListN.{length, drop}
@@ -46,9 +46,9 @@ module _ (job : Job) where
         pointers = λ a h e. none_at_all (λ b l. pointer b (pointer_fault l)) (suc a) a (omega arith) (h, e);
       }
     where
-      whole : (o : Option ℕ) → break_from item 1 (drop 1 job.table) ≡ o → break_from item 1 (drop 1 job.table) ≡ none
-      whole none e = e
-      whole (some a) e = absurd (layout a (layout_fault e))
+      whole : (o : Option ℕ) → break_from item 1 (drop 1 job.table) ≡ o → break_from item 1 (drop 1 job.table) ≡ None
+      whole None e = e
+      whole (Some a) e = absurd (layout a (layout_fault e))
 
   pub passed_check : NoneOf (Fault job) check_order → PassedCheck job.table
   passed_check none_applies =

@@ -3,7 +3,7 @@
 use mathlib.Core.Path.{◌≡◌, refl, sym, ap, ◌∙◌, subst}
 use mathlib.Core.Bool.{Bool, true, false, cond}
 use mathlib.Core.List.{List, [], ◌∷◌, ◌++◌}
-use mathlib.Core.Option.{none, some}
+use Rattle.std.specs.Prelude.{None, Some}
 use Prim.Native.Nat.{ℕ, zero, suc, ◌+◌, ◌<◌}
 use native.Mathlib.Omega.{arith}
 use lib.ListN.{length, get_or}
@@ -70,19 +70,19 @@ one_word count w rest e g = (w, rest, refl, (same_kind_exactly (kind_of w) Count
 one_word (arguments zero) w rest e g = tt
 one_word (arguments (suc k)) w rest e g = one_argument w k rest e (goes_more k rest g)
 
-whole_goes : (row : List ℕ) (wanted : Wanted) (a : ℕ) → break_from wanted a row ≡ none → Goes wanted row
+whole_goes : (row : List ℕ) (wanted : Wanted) (a : ℕ) → break_from wanted a row ≡ None → Goes wanted row
 unfolding break_from at_end
 whole_goes [] item a e = no_more
 whole_goes [] count a e = never (cc)
 whole_goes [] (arguments k) a e = never (cc)
 whole_goes (w ∷ rest) wanted a e = go (can_stand wanted (kind_of w)) refl (λ q. whole_goes rest (after wanted w) (a + 1) q)
   where
-    go : (b : Bool) → can_stand wanted (kind_of w) ≡ b → (break_from (after wanted w) (a + 1) rest ≡ none → Goes (after wanted w) rest) → Goes wanted (w ∷ rest)
-    go false s ih = let q : some a ≡ none = sym (break_stops wanted a w rest s) ∙ e in never (cc)
+    go : (b : Bool) → can_stand wanted (kind_of w) ≡ b → (break_from (after wanted w) (a + 1) rest ≡ None → Goes (after wanted w) rest) → Goes wanted (w ∷ rest)
+    go false s ih = let q : Some a ≡ None = sym (break_stops wanted a w rest s) ∙ e in never (cc)
     go true s ih = one_word wanted w rest s (ih (sym (break_stands wanted a w rest s) ∙ e))
 
 -- A row that does not break is a row of items.
-pub whole_items : (row : List ℕ) (a : ℕ) → break_from item a row ≡ none → Items row
+pub whole_items : (row : List ℕ) (a : ℕ) → break_from item a row ≡ None → Items row
 whole_items row a e = whole_goes row item a e
 
 -- the arguments of a block stand, and the question is passed on to what follows
@@ -95,7 +95,7 @@ arguments_stand (w ∷ words) rest all a =
     ∙ ap (λ (b : ℕ). break_from item b rest) (let e : a + 1 + length words ≡ a + suc (length words) = omega arith in e)
 
 -- A row of items does not break.
-pub items_whole : {row : List ℕ} → Items row → (a : ℕ) → break_from item a row ≡ none
+pub items_whole : {row : List ℕ} → Items row → (a : ℕ) → break_from item a row ≡ None
 unfolding break_from at_end can_stand after AllArguments
 items_whole no_more a = refl
 items_whole (variable_item {w} {rest} e items) a =

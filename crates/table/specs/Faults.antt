@@ -1,7 +1,6 @@
 -- Document 01's table of numbers, "Numbers returned": the rows 1 to 11, with the words of each beside its constructor. Row 6 is
 -- as document 02, E1, amends it. Assumes nothing.
-use Rattle.std.specs.Prelude.{◌≡◌, Bool, true, false, ◌&&◌, ◌||◌, not, ◌⊎◌, List, [], ◌∷◌, ◌++◌, ℕ, zero, suc, ◌+◌, ◌*◌, ◌<◌, eqb, leb, ltb, length, get_or, take, drop}
-use Rattle.std.proofs.Math.Option.{some}
+use Rattle.std.specs.Prelude.{◌≡◌, Bool, true, false, ◌&&◌, ◌||◌, not, ◌⊎◌, Some, List, [], ◌∷◌, ◌++◌, ℕ, zero, suc, ◌+◌, ◌*◌, ◌<◌, eqb, leb, ltb, length, get_or, take, drop}
 use Rattle.words.specs.Limits.{most_words, most_entries, most_arguments}
 use Rattle.words.specs.Word.{unnamed, same_kind, is_one_of}
 use Rattle.words.specs.declared.kind.Kind.{Kind}
@@ -114,7 +113,7 @@ pub data Fault (job : Job) : Row → ℕ → Type 0 where
   -- "lowest such address"
   word_fault : {a : ℕ} → Lowest (λ b. (b < length job.table) × (bad_word job.table b ≡ true)) a → Fault job WORD a
   -- "the row of items breaks"; it begins at address 1
-  layout_fault : {a : ℕ} → break_from item 1 (drop 1 job.table) ≡ some a → Fault job LAYOUT a
+  layout_fault : {a : ℕ} → break_from item 1 (drop 1 job.table) ≡ Some a → Fault job LAYOUT a
   -- "lowest such pointer"
   pointer_fault : {a : ℕ} → Lowest (λ b. (b < length job.table) × (bad_pointer job.table b ≡ true)) a → Fault job POINTER a
   -- "lowest such later address"

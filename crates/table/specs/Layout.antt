@@ -1,6 +1,5 @@
 -- The row of items, and where it breaks. The sentences quoted are document 01's. Assumes nothing.
-use Rattle.std.specs.Prelude.{◌≡◌, Bool, true, false, cond, List, [], ◌∷◌, ◌++◌, ℕ, zero, suc, ◌+◌, ◌<◌, length, get_or}
-use Rattle.std.proofs.Math.Option.{Option, none, some}
+use Rattle.std.specs.Prelude.{◌≡◌, Bool, true, false, cond, Option, None, Some, List, [], ◌∷◌, ◌++◌, ℕ, zero, suc, ◌+◌, ◌<◌, length, get_or}
 use Rattle.words.specs.Word.{same_kind, node_kinds, argument_kinds, is_one_of, kind_of, content_of}
 use Rattle.words.specs.declared.kind.Kind.{Kind}
 use Rattle.words.specs.declared.kind.Kind.TheVariants.{Variable, Constant, Function, Count}
@@ -45,12 +44,12 @@ after count w = more (content_of w)
 after (arguments j) w = more (less j)
 
 unfoldable pub at_end : Wanted → ℕ → Option ℕ
-at_end item a = none
-at_end count a = some a
-at_end (arguments j) a = some a
+at_end item a = None
+at_end count a = Some a
+at_end (arguments j) a = Some a
 
 -- "first word that cannot stand there; n if a block runs past the end": the words from address a on, where `wanted` may stand
 -- at a. The end of the row is at address n.
 unfoldable pub break_from : Wanted → ℕ → List ℕ → Option ℕ
 break_from wanted a [] = at_end wanted a
-break_from wanted a (w ∷ rest) = elim (can_stand wanted (kind_of w)) [ true ↦ break_from (after wanted w) (a + 1) rest | false ↦ some a ]
+break_from wanted a (w ∷ rest) = elim (can_stand wanted (kind_of w)) [ true ↦ break_from (after wanted w) (a + 1) rest | false ↦ Some a ]

@@ -23,10 +23,7 @@ pub fn is_node(table: &[u32], x: Address) -> bool
     ensures { result ≡ node_kind (kind_at table.now x.0) }
 {
     let at = x.0 as usize;
-    if table.len() <= at {
-        return false;
-    }
-    is_node_word(table[at])
+    at < table.len() && is_node_word(table[at])
 }
 
 // Whether the word at an address is a function. Only a function has children.
@@ -34,11 +31,7 @@ pub fn is_function(table: &[u32], x: Address) -> bool
     requires { x.0 < length table.now }
     ensures { result ≡ same_kind (kind_at table.now x.0) Kind.Function }
 {
-    if let Kind::Function = word::kind(table[x.0 as usize]) {
-        true
-    } else {
-        false
-    }
+    word::kind(table[x.0 as usize]) == Kind::Function
 }
 
 // How many children the node at an address has.
@@ -47,7 +40,7 @@ pub fn degree(table: &[u32], x: Address) -> u16
     ensures { result ≡ degree_at table.now x.0 }
 {
     let at = x.0 as usize;
-    if let Kind::Function = word::kind(table[at]) {
+    if word::kind(table[at]) == Kind::Function {
         word::content(table[at + 1])
     } else {
         0
@@ -60,7 +53,7 @@ fn named_at(table: &[u32], at: u16) -> Address
     ensures { result.0 ≡ named table.now at }
 {
     let word = table[at as usize];
-    if let Kind::Pointer = word::kind(word) {
+    if word::kind(word) == Kind::Pointer {
         word::address(word)
     } else {
         Address(at)
@@ -83,13 +76,9 @@ pub fn head(table: &[u32], x: Address) -> Head
 {
     let at = x.0 as usize;
     let word = table[at];
-    let kind = word::kind(word);
-    if let Kind::Function = kind {
-        return Head::Function(word::label(word), word::content(table[at + 1]));
-    }
-    if let Kind::Constant = kind {
-        Head::Constant(word::label(word))
-    } else {
-        Head::Variable(word::label(word))
+    match word::kind(word) {
+        Kind::Function => Head::Function(word::label(word), word::content(table[at + 1])),
+        Kind::Constant => Head::Constant(word::label(word)),
+        _ => Head::Variable(word::label(word)),
     }
 }

@@ -2,6 +2,7 @@
 -- Assumes nothing.
 use mathlib.Core.Logic.{inl, inr}
 use native.Mathlib.Omega.{arith}
+use Rattle.rows.proofs.Laws.{filled_front}
 use Rattle.checker.proofs.CheckLaws.{check_size, check_room, check_faults}
 use Rattle.checker.proofs.check.Goals as goal
 
@@ -18,4 +19,6 @@ pub returns-then-work-n : goal.returns-then-work-n
 returns-then-work-n c = check_room _ _ _ (omega arith) (omega arith) (inr c.if-work-n.true)
 
 pub returns : goal.returns
-returns c = check_faults _ _ _ (record { some_word = omega arith; small = omega arith; class_enough = omega arith; work_enough = omega arith }) c.faults-answer.ensures c.clear16.ensures c.clear16-2.ensures
+returns c = check_faults _ _ _ (record { some_word = omega arith; small = omega arith; class_enough = omega arith; work_enough = omega arith }) c.faults-answer.ensures
+    (filled_front _ _ _ (omega arith) (c.fill.ensures.after (λ y e. e)))
+    (filled_front _ _ _ (omega arith) (c.fill-2.ensures.after (λ y e. e)))

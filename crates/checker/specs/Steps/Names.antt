@@ -1,9 +1,10 @@
 -- What the scan for repeated names answers, `FirstRepeated`; and what is known of the chains that it and the walk along the items
 -- keep in the work row. For this crate alone. Assumes nothing.
-use Rattle.std.specs.Prelude.{◌≡◌, Bool, true, false, List, ℕ, ◌+◌, ◌*◌, ◌/◌, ◌%◌, ◌≤◌, ◌<◌, length, get_or, drop}
+use Rattle.std.specs.Prelude.{◌≡◌, Bool, true, false, Option, None, Some, List, ℕ, ◌+◌, ◌*◌, ◌/◌, ◌%◌, ◌≤◌, ◌<◌, length, get_or, drop}
 use Rattle.words.specs.Limits.{most_words}
 use Rattle.words.specs.Word.{unnamed}
 use Rattle.words.specs.declared.kind.Kind.TheVariants.{Variable, NoWord}
+use Rattle.answering.specs.Answers.{Lowest}
 use Rattle.table.specs.Table.{kind_at, content_at}
 use Rattle.table.specs.Faults.{Repeats}
 
@@ -12,11 +13,14 @@ pub record RestStays (t entry exit : List ℕ) : Type 0 where
   pub rest : drop (4 * length t) exit ≡ drop (4 * length t) entry
   pub same_length : length exit ≡ length entry
 
--- The lowest address that repeats a name, or the table's length.
-pub record FirstRepeated (t entry exit : List ℕ) (found : ℕ) : Type 0 where
-  pub within : found ≤ length t
-  pub none_before : (j : ℕ) → j < found → Repeats t j → ⊥
-  pub repeats : found < length t → Repeats t found
+-- the lowest address that repeats a name, if one does
+abbrev pub LowestRepeated : List ℕ → Option ℕ → Type 0
+LowestRepeated t (Some a) = Lowest (Repeats t) a
+LowestRepeated t None = (a : ℕ) → Repeats t a → ⊥
+
+-- .. with the work row that the scan for it leaves
+pub record FirstRepeated (t entry exit : List ℕ) (found : Option ℕ) : Type 0 where
+  pub lowest : LowestRepeated t found
   pub stays : RestStays t entry exit
 
 -- the first where the answer is yes, and the second where it is no

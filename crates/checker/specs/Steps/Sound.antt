@@ -1,5 +1,5 @@
 -- What the walk along the items of a sound table knows. For this crate alone. Assumes nothing.
-use Rattle.std.specs.Prelude.{◌≡◌, Bool, true, false, ◌&&◌, not, List, ℕ, ◌+◌, ◌-◌, ◌≤◌, ◌<◌, length, drop}
+use Rattle.std.specs.Prelude.{◌≡◌, Bool, true, false, ◌&&◌, not, Option, IfSome, List, ℕ, ◌+◌, ◌-◌, ◌≤◌, ◌<◌, length, drop}
 use Rattle.words.specs.Word.{same_kind, argument_kinds, is_one_of, kind_of, content_of}
 use Rattle.words.specs.declared.kind.Kind.TheVariants.{Count}
 use Rattle.table.specs.Table.{kind_at}
@@ -38,10 +38,16 @@ pub record AsArguments (t entry exit : List ℕ) (a b : ℕ) (sound : Bool) : Ty
   pub stays : RestStays t entry exit
   pub goes_on : sound ≡ true → Walked t (more (b - a)) a item b × Chained t exit b
 
--- The address at which the next item may stand, if `here` may at a; 0 says that the walk cannot go on.
-pub record NextItem (t entry exit : List ℕ) (here : Wanted) (a next : ℕ) : Type 0 where
+-- The walk came from a, where `here` may stand, to b, where an item may.
+pub record WalkedOn (t exit : List ℕ) (here : Wanted) (a b : ℕ) : Type 0 where
+  pub further : a < b
+  pub walked : Walked t here a item b
+  pub chained : Chained t exit b
+
+-- The address at which the next item may stand, if `here` may at a, or none where the walk cannot go on.
+pub record NextItem (t entry exit : List ℕ) (here : Wanted) (a : ℕ) (next : Option ℕ) : Type 0 where
   pub stays : RestStays t entry exit
-  pub goes_on : (next ≡ 0 → ⊥) → (a < next) × Walked t here a item next × Chained t exit next
+  pub goes_on : IfSome next (WalkedOn t exit here a)
 
 -- The table was walked along. If it is sound, then none of the rows from 3 to 6 applies.
 pub record SoundTable (t entry exit : List ℕ) (sound : Bool) : Type 0 where

@@ -2,7 +2,7 @@
 -- the path, from the root of the search down to the vertex in hand. A mark is 0 for a new vertex; 1 + the edges passed over,
 -- while the vertex is on the path; and 257 once it is finished, which is more than 1 + the edges of any vertex. What is no
 -- function stays new. For this crate alone. Assumes nothing.
-use Rattle.std.specs.Prelude.{◌≡◌, Bool, true, false, List, ◌⊎◌, ℕ, zero, suc, ◌+◌, ◌-◌, ◌*◌, ◌≤◌, ◌<◌, length, get_or, drop}
+use Rattle.std.specs.Prelude.{◌≡◌, Bool, true, false, Option, None, Some, List, ◌⊎◌, ℕ, zero, suc, ◌+◌, ◌-◌, ◌*◌, ◌≤◌, ◌<◌, length, get_or, drop}
 use Rattle.words.specs.Limits.{most_arguments}
 use Rattle.graphs.specs.Partition.{entry}
 use Rattle.cycles.specs.Digraph.{Digraph, Edge, Returns}
@@ -86,10 +86,16 @@ pub record Over (D : Digraph) (x i j : ℕ) : Type 0 where
   pub within : j ≤ D.count x
   pub ends : (k : ℕ) → i ≤ k → k < j → Safe D (D.next x k)
 
--- The edges of x from place i up to j are passed over, and the one at j, if there is one, leads to an open vertex.
-pub record Passed (D : Digraph) (work : List ℕ) (x i j : ℕ) : Type 0 where
+-- The edge of x at place j leads to an open vertex, and those from place i up to it lead to vertices from which every walk ends.
+pub record OpenEdge (D : Digraph) (work : List ℕ) (x i j : ℕ) : Type 0 where
   pub over : Over D x i j
-  pub stops : j < D.count x → Open (D.count (D.next x j)) (mark work (D.next x j)) true
+  pub more : j < D.count x
+  pub leads_on : Open (D.count (D.next x j)) (mark work (D.next x j)) true
+
+-- The edges of x from place i on are passed over up to the first that leads to an open vertex, if there is one.
+abbrev pub Passed : Digraph → List ℕ → ℕ → ℕ → Option ℕ → Type 0
+Passed D work x i (Some j) = OpenEdge D work x i j
+Passed D work x i None = Over D x i (D.count x)
 
 -- What the search from one root does: it found a cycle, or every walk from the root ends.
 abbrev pub FromRoot : Digraph → List ℕ → List ℕ → ℕ → Bool → Type 0

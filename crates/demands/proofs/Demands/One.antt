@@ -9,8 +9,7 @@ use Rattle.answering.specs.Answers.{Answered}
 use Rattle.answering.specs.Buffers.{changes_nothing}
 use Rattle.table.specs.Faults.{Fault, number, check_order, match_order}
 use Rattle.checker.specs.Check.{Checked, CheckOf, number_of as check_number, place_of as check_place, checked_job}
-use Rattle.matcher.specs.declared.answer.Matched.{Matched}
-use Rattle.matcher.specs.Match.{MatchOf, number_of, place_of, joins_of, job_of}
+use Rattle.matcher.specs.Match.{Matched, MatchOf, number_of, place_of, joins_of, job_of}
 use Rattle.jobfile.specs.declared.answers.FileAnswer.{FileAnswer}
 use Rattle.jobfile.specs.declared.answers.WriteAnswer.{WriteAnswer}
 use Rattle.jobfile.specs.declared.sizes.Sizes.{Sizes}

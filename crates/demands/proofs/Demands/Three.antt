@@ -8,8 +8,7 @@ use Rattle.graphs.specs.Graph.{variable}
 use Rattle.graphs.specs.Partition.{pairs_of}
 use Rattle.graphs.specs.Term.{WellCounted, Replacement, ◌then◌, Unifies, FollowsRule, answer}
 use Rattle.table.specs.Table.{TableSymbols, graph_of}
-use Rattle.matcher.specs.declared.answer.Matched.{Matched}
-use Rattle.matcher.specs.Match.{MatchOf, Passes, number_of, job_of}
+use Rattle.matcher.specs.Match.{Matched, MatchOf, Passes, number_of, job_of}
 use Rattle.matcher.specs.Demands.{Met, MetCounted}
 use Rattle.host.specs.AsOne.{answer_in}
 use Rattle.jobfile.specs.Jobs.{table_of, list_of}

@@ -8,8 +8,7 @@ use Rattle.rows.specs.LittleEndian.{AllBytes}
 use Rattle.graphs.specs.Graph.{Node}
 use Rattle.graphs.specs.Partition.{pairs_of, Same, Smallest, entry, ClassTable, OneEntry, joins}
 use Rattle.table.specs.Table.{graph_of}
-use Rattle.matcher.specs.declared.answer.Matched.{Matched}
-use Rattle.matcher.specs.Match.{MatchOf, Passes, number_of, place_of, joins_of, job_of}
+use Rattle.matcher.specs.Match.{Matched, MatchOf, Passes, number_of, place_of, joins_of, job_of}
 use Rattle.matcher.specs.Demands.{FirstUnmet}
 use Rattle.jobfile.specs.declared.answers.FileAnswer.{FileAnswer}
 use Rattle.jobfile.specs.declared.answers.FileAnswer.TheVariants.{Good}

@@ -9,8 +9,7 @@ use Rattle.table.specs.Table.{content_at}
 use Rattle.table.specs.Faults.{StoodEarlier, Repeats}
 use Rattle.table.specs.Relabelled.{Relabelled}
 use Rattle.checker.specs.Check.{Checked, CheckOf, number_of as check_number, place_of as check_place, checked_job}
-use Rattle.matcher.specs.declared.answer.Matched.{Matched}
-use Rattle.matcher.specs.Match.{MatchOf, Passes, number_of, place_of, joins_of, job_of}
+use Rattle.matcher.specs.Match.{Matched, MatchOf, Passes, number_of, place_of, joins_of, job_of}
 use Rattle.jobfile.specs.Jobs.{table_of, list_of}
 use Rattle.host.specs.AsOne.{answer_in, place_in}
 use Rattle.host.specs.Host.{HostOf}

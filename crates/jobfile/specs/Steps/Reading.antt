@@ -4,8 +4,7 @@ use Rattle.words.specs.Limits.{most_bytes, most_jobs}
 use Rattle.answering.specs.Answers.{Answered}
 use Rattle.jobfile.specs.File.{contents_end, count_in}
 use Rattle.jobfile.specs.Faults.{BODY, file_number, ReadFault}
-use Rattle.jobfile.specs.declared.answers.FileAnswer.{FileAnswer}
-use Rattle.jobfile.specs.Reader.{number_of, place_of}
+use Rattle.jobfile.specs.Reader.{FileAnswer, number_of, place_of}
 
 -- the count was read: neither 12 nor 13 applies
 pub record Opened (bytes : List ℕ) (jobs : ℕ) : Type 0 where

@@ -2,8 +2,7 @@
 use Rattle.std.specs.Prelude.{◌≡◌, List, ◌++◌, ℕ, ◌+◌, ◌*◌, ◌≤◌, length}
 use Rattle.words.specs.Limits.{most_words}
 use Rattle.rows.specs.Placed.{placed}
-use Rattle.matcher.specs.Match.{number_of, place_of, joins_of}
-use Rattle.matcher.specs.declared.answer.Matched.{Matched}
+use Rattle.matcher.specs.Match.{Matched, number_of, place_of, joins_of}
 use Rattle.jobfile.specs.File.{pairs_in}
 use Rattle.jobfile.specs.Jobs.{entry_of, RowsForJob}
 use Rattle.lines.specs.Lines.{job_line, line_room, LineIn}

@@ -1,17 +1,15 @@
 -- `again::written::rewrite` meets its contract.
 -- Assumes nothing.
-use mathlib.Core.Path.{sym}
+use mathlib.Core.Path.{◌≡◌}
 use native.Mathlib.Omega.{arith}
-use lib.Seq.{length-take-le}
-use Rattle.jobfile.proofs.Theorems.{read_count, read_length}
-use Rattle.again.proofs.AgainLaws.{read_written}
+use borrow.Author.Rules.{rules}
+use Rattle.std.specs.Prelude.{Err}
+use Rattle.again.proofs.AgainLaws.{read_written, read_refused}
 use Rattle.again.proofs.written.rewrite.Goals as goal
 
-pub slice_bounds-row-end : goal.slice_bounds-row-end
-slice_bounds-row-end c = omega (arith, read_count c.read-read.ensures, read_length c.read-read.ensures)
-
-pub slice_bounds-write-end : goal.slice_bounds-write-end
-slice_bounds-write-end c = sym (length-take-le _ _ (omega (arith, read_count c.read-read.ensures, read_length c.read-read.ensures)))
+pub returns-in_err-read : goal.returns-in_err-read
+returns-in_err-read c = let refused : c.from_residual.result ≡ Err c.in_err-read.field-0.0 = search rules in
+    rw refused (read_refused c.read-read.ensures c.in_err-read.was)
 
 pub returns : goal.returns
-returns c = read_written (λ i. omega (arith, c.type_inv.file i)) c.requires c.read-read.ensures c.bodies.ensures c.write.ensures
+returns c = read_written (λ i. omega (arith, c.type_inv.file i)) c.requires c.read-read.ensures c.in_ok-read.was c.bodies.ensures (rw c.as_slice.ensures at c.write.ensures)

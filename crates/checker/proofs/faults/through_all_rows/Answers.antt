@@ -5,22 +5,21 @@ use borrow.Author.Rules.{rules}
 use Rattle.std.proofs.lemmas.Result.{err_from_is_err_and}
 use Rattle.table.specs.Faults.{shape_rows}
 use Rattle.checker.specs.Steps.Stage.{ByRows}
-use Rattle.checker.proofs.CheckLaws.{accepted_readable, shape_refused, shape_passed, name_stage, none_repeats, names_passed, lent_later}
+use Rattle.checker.proofs.CheckLaws.{accepted_readable, shape_refused, shape_passed, name_stage, names_passed, lent_later}
 use Rattle.checker.proofs.faults.through_all_rows.Goals as goal
 
 pub returns-in_err-row_by_row : goal.returns-in_err-row_by_row
 returns-in_err-row_by_row c = let p = err_from_is_err_and c.from_residual.result c.from_residual.ensures.1 in rw (p.1, p.2) (shape_refused (subst (ByRows shape_rows c.args.table.now) c.in_err-row_by_row.was c.row_by_row.ensures))
 
-pub first_repeated_name-name-requires : goal.first_repeated_name-name-requires
-first_repeated_name-name-requires c = (accepted_readable (subst (ByRows shape_rows c.args.table.now) c.in_ok-row_by_row.was c.row_by_row.ensures) c.requires, c.requires.work_enough)
+pub first_repeated_name-requires : goal.first_repeated_name-requires
+first_repeated_name-requires c = (accepted_readable (subst (ByRows shape_rows c.args.table.now) c.in_ok-row_by_row.was c.row_by_row.ensures) c.requires, c.requires.work_enough)
 
-pub returns-then-name-table : goal.returns-then-name-table
-returns-then-name-table c = shape_passed (subst (ByRows shape_rows c.args.table.now) c.in_ok-row_by_row.was c.row_by_row.ensures) (name_stage c.first_repeated_name-name.ensures c.if-name-table.true)
+pub returns-in-Some : goal.returns-in-Some
+returns-in-Some c = shape_passed (subst (ByRows shape_rows c.args.table.now) c.in_ok-row_by_row.was c.row_by_row.ensures) (name_stage c.in-Some.ensures)
 
 pub loops_alone-requires : goal.loops_alone-requires
 loops_alone-requires c = (search rules, accepted_readable (subst (ByRows shape_rows c.args.table.now) c.in_ok-row_by_row.was c.row_by_row.ensures) c.requires)
 
 pub returns : goal.returns
 returns c = shape_passed (subst (ByRows shape_rows c.args.table.now) c.in_ok-row_by_row.was c.row_by_row.ensures)
-    (lent_later c.first_repeated_name-name.ensures.stays
-    (names_passed (none_repeats c.first_repeated_name-name.ensures c.if-name-table.false) c.loops_alone.ensures))
+    (lent_later c.first_repeated_name.ensures.stays (names_passed c.in_default.ensures.lowest c.loops_alone.ensures))

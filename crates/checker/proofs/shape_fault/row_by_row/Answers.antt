@@ -1,27 +1,17 @@
 -- `checker::shape_fault::row_by_row` meets its contract: each row answers where those before it do not apply. Assumes nothing.
-use mathlib.Core.Path.{sym, ap, ◌∙◌}
+use mathlib.Core.Path.{sym}
 use native.Mathlib.Omega.{arith}
-use borrow.Author.Rules.{rules}
-use Rattle.shape.specs.Layout.{break_of}
-use Rattle.checker.proofs.Stages.{bad_word_lem, bad_layout, bad_pointer_lem, no_bad_shape, break_within}
+use Rattle.checker.proofs.Stages.{bad_word_lem, bad_layout, bad_pointer_lem, break_within}
 use Rattle.checker.proofs.shape_fault.row_by_row.Goals as goal
 
-pub returns-then-word-table : goal.returns-then-word-table
-returns-then-word-table c = bad_word_lem (search rules) c.if-word-table.true
+pub returns-in-Some : goal.returns-in-Some
+returns-in-Some c = bad_word_lem c.in-Some.at c.in-Some.ensures
 
-pub overflow_cast-result-in-BreaksAt : goal.overflow_cast-result-in-BreaksAt
-overflow_cast-result-in-BreaksAt c = omega (arith, c.requires, break_within c.args.table.now _ (sym c.layout_break.ensures ∙ ap break_of c.in-BreaksAt.is))
+pub overflow_cast-result-in-Some-layout_break : goal.overflow_cast-result-in-Some-layout_break
+overflow_cast-result-in-Some-layout_break c = omega (arith, c.requires, break_within c.args.table.now _ (sym c.in-Some-layout_break.ensures))
 
-pub returns-in-BreaksAt : goal.returns-in-BreaksAt
-returns-in-BreaksAt c = bad_layout c.first_bad_word-word.ensures c.if-word-table.false
-    (sym c.layout_break.ensures ∙ ap break_of c.in-BreaksAt.is)
+pub returns-in-Some-layout_break : goal.returns-in-Some-layout_break
+returns-in-Some-layout_break c = bad_layout c.in_default.ensures (sym c.in-Some-layout_break.ensures)
 
-pub returns-then-pointer-table : goal.returns-then-pointer-table
-returns-then-pointer-table c = bad_pointer_lem c.first_bad_word-word.ensures c.if-word-table.false
-    (sym c.layout_break.ensures ∙ ap break_of c.in_default.is)
-    c.first_bad_pointer-pointer.ensures c.if-pointer-table.true
-
-pub returns : goal.returns
-returns c = no_bad_shape c.first_bad_word-word.ensures c.if-word-table.false
-    (sym c.layout_break.ensures ∙ ap break_of c.in_default.is)
-    c.first_bad_pointer-pointer.ensures c.if-pointer-table.false
+pub returns-in-Some-first_bad_pointer : goal.returns-in-Some-first_bad_pointer
+returns-in-Some-first_bad_pointer c = bad_pointer_lem c.in_default.ensures (sym c.in_default-layout_break.ensures) c.in-Some-first_bad_pointer.at c.in-Some-first_bad_pointer.ensures

@@ -23,7 +23,7 @@ pub returns-in-Constant : goal.returns-in-Constant
 returns-in-Constant c = next_constant c.args.table.now c.args.at c.requires.1 c.requires.2 c.requires.0 (sym c.kind.ensures ∙ c.in-Constant.is)
 
 pub returns-in-Function : goal.returns-in-Function
-returns-in-Function c = next_block (function_word c.args.table.now c.args.at c.requires.1 c.requires.2 (sym c.kind.ensures ∙ c.in-Function.is)) c.after_block.ensures
+returns-in-Function c = next_block _ (function_word c.args.table.now c.args.at c.requires.1 c.requires.2 (sym c.kind.ensures ∙ c.in-Function.is)) c.after_block.ensures
 
 pub returns-in_default : goal.returns-in_default
 returns-in_default c = nowhere (stays_same _ _)

@@ -13,20 +13,20 @@ begin_chains-requires c = (c.requires.1, c.requires.2, c.if-table-ne0.false)
 pub loop-at-init : goal.loop-at-init
 loop-at-init c = items_none c.begin_chains.ensures.chained c.requires.0
 
-pub after_item-at-requires : goal.after_item-at-requires
-after_item-at-requires c = let y = c.loop-at.invariant in (y.chained, omega (arith, y.walked.forth), c.loop-at-test.true)
+pub after_item-requires : goal.after_item-requires
+after_item-requires c = let y = c.loop-at.invariant in (y.chained, omega (arith, y.walked.forth), c.loop-at-test.true)
 
-pub returns-then-at-eq-NOWHERE : goal.returns-then-at-eq-NOWHERE
-returns-then-at-eq-NOWHERE c = unsound_table (stays_on c.begin_chains.ensures.stays (stays_on c.loop-at.invariant.stays c.after_item-at.ensures.stays))
+pub returns-in_default : goal.returns-in_default
+returns-in_default c = unsound_table (stays_on c.begin_chains.ensures.stays (stays_on c.loop-at.invariant.stays c.after_item.ensures.stays))
 
-pub shape_of-work-then-at-eq-NOWHERE : goal.shape_of-work-then-at-eq-NOWHERE
-shape_of-work-then-at-eq-NOWHERE c = (stays_on c.begin_chains.ensures.stays (stays_on c.loop-at.invariant.stays c.after_item-at.ensures.stays)).same_length
+pub shape_of-work-in_default : goal.shape_of-work-in_default
+shape_of-work-in_default c = (stays_on c.begin_chains.ensures.stays (stays_on c.loop-at.invariant.stays c.after_item.ensures.stays)).same_length
 
 pub loop-at-smaller : goal.loop-at-smaller
-loop-at-smaller c = omega (arith, (c.after_item-at.ensures.goes_on c.if-at-eq-NOWHERE.false).0)
+loop-at-smaller c = omega (arith, c.in-Some.ensures.goes_on.further)
 
 pub loop-at-preserved : goal.loop-at-preserved
-loop-at-preserved c = items_more c.loop-at.invariant c.after_item-at.ensures c.if-at-eq-NOWHERE.false
+loop-at-preserved c = items_more c.loop-at.invariant c.in-Some.next c.in-Some.ensures
 
 pub returns : goal.returns
 returns c = sound_table c.loop-at.invariant c.begin_chains.ensures.stays c.if-table-ne0.false c.loop-at-test.false

@@ -2,7 +2,7 @@
 -- Assumes nothing.
 use mathlib.Core.Path.{sym, ◌∙◌}
 use native.Mathlib.Omega.{arith}
-use Rattle.jobfile.proofs.ReaderLaws.{walked_none, walked_more, bodies_wrong, bodies_past, bodies_follow, bodies_good}
+use Rattle.jobfile.proofs.ReaderLaws.{walked_none, walked_more, bodies_wrong, bodies_past, bodies_follow}
 use Rattle.jobfile.proofs.contents.judge_bodies.Goals as goal
 
 pub loop-k-init : goal.loop-k-init
@@ -19,6 +19,3 @@ loop-k-preserved c = walked_more c.loop-k.invariant (omega arith) (sym c.number.
 
 pub returns-then-start-file : goal.returns-then-start-file
 returns-then-start-file c = bodies_follow c.loop-k.invariant c.requires.counted (omega arith) c.if-start-file.true
-
-pub returns : goal.returns
-returns c = bodies_good c.loop-k.invariant (omega arith) c.if-start-file.false

@@ -1,26 +1,20 @@
--- `lines::fields::put_field` meets its contract: one byte is stored after the digits. Assumes nothing.
-use mathlib.Core.Path.{◌≡◌}
-use Prim.Native.Nat.{◌+◌, ◌≤◌}
+-- `lines::fields::put_field` meets its contract: the library's digits are those of `decimal`, and one byte is stored after them.
+-- Assumes nothing.
+use mathlib.Core.Path.{◌≡◌, ap, ◌∙◌}
+use Prim.Native.Nat.{ℕ, ◌+◌, ◌≤◌}
 use native.Mathlib.Omega.{arith}
-use lib.ListN.{length, set}
-use Rattle.rows.specs.Placed.{placed}
+use lib.ListN.{length}
+use Rattle.rows.proofs.Laws.{copied_within}
 use Rattle.lines.specs.Decimal.{decimal}
-use Rattle.lines.specs.Lines.{field}
-use Rattle.lines.proofs.Decimals.{decimal_short}
+use Rattle.lines.proofs.Decimals.{same_digits, decimal_short}
 use Rattle.lines.proofs.LineLaws.{field-placed}
 use Rattle.lines.proofs.fields.put_field.Goals as goal
 
-pub put_number-next-requires : goal.put_number-next-requires
-put_number-next-requires c = omega (arith, decimal_short c.args.x (omega arith))
-
-pub bounds-row-next : goal.bounds-row-next
-bounds-row-next c = omega (arith, decimal_short c.args.x (omega arith), c.put_number-next.ensures.0, c.put_number-next.auto.row)
-
-pub overflow_add-result : goal.overflow_add-result
-overflow_add-result c = omega (arith, decimal_short c.args.x (omega arith), c.put_number-next.ensures.0)
-
 pub returns : goal.returns
-returns c = let few : length (decimal c.args.x) ≤ 5 = decimal_short c.args.x (omega arith) in
-    let done : (c.put_number-next.result + 1 ≡ c.args.at + length (field c.args.x c.args.after)) × (set c.put_number-next.new.row c.put_number-next.result c.args.after ≡ placed c.args.at (field c.args.x c.args.after) c.args.row.now) =
-    field-placed c.args.x c.args.after c.args.at c.put_number-next.result c.args.row.now c.put_number-next.new.row (omega arith) c.put_number-next.ensures.0 c.put_number-next.ensures.1 in
-    (done.0, omega (arith, c.put_number-next.ensures.0), done.1)
+returns c = let text : c.as_bytes-digits.result.now ≡ decimal c.args.x = c.as_bytes-digits.ensures.value ∙ c.format.ensures.text ∙ same_digits c.args.x (omega arith) in
+    let few : length (decimal c.args.x) ≤ 5 = decimal_short c.args.x (omega arith) in
+    let long : length c.as_bytes-digits.result.now ≡ length (decimal c.args.x) = ap length text in
+    let within : c.args.at + length c.as_bytes-digits.result.now + 1 ≤ c.args.at + 6 = omega arith in
+    let done = field-placed c.args.x c.args.after c.args.at _ c.args.row.now _ (omega arith) (ap (λ (n : ℕ). c.args.at + n) long)
+    (copied_within c.args.at _ (decimal c.args.x) c.args.row.now _ (omega arith) (c.copy_from_slice.ensures.after ∙ text)) in
+    (done.0, within, done.1)

@@ -1,10 +1,6 @@
 -- `shape::layout_fault::layout_break` meets its contract: the row breaks where the rest of it breaks, from where the scan has come to. Assumes nothing.
-use mathlib.Core.Path.{refl}
 use Rattle.shape.proofs.LayoutLaws.{scan_stops, scan_stands, scan_ends}
 use Rattle.shape.proofs.layout_fault.layout_break.Goals as goal
-
-pub loop-at-init : goal.loop-at-init
-loop-at-init c = record { same = refl }
 
 pub returns-then-not-can_stand : goal.returns-then-not-can_stand
 returns-then-not-can_stand c = scan_stops c.loop-at.invariant c.loop-at-test.true
@@ -15,4 +11,4 @@ loop-at-preserved c = scan_stands c.loop-at.invariant c.loop-at-test.true
     c.kind.ensures c.can_stand.ensures c.if-not-can_stand.false c.after-wanted.ensures
 
 pub returns : goal.returns
-returns c = scan_ends c.loop-at.invariant c.loop-at-test.false c.end.ensures
+returns c = scan_ends c.loop-at.invariant c.loop-at-test.false c.loop-at.auto.at-end c.end.ensures

@@ -1,0 +1,22 @@
+-- `host::sizes::copy_sizes` meets its contract.
+-- Assumes nothing.
+use native.Mathlib.Omega.{arith}
+use Rattle.std.proofs.lemmas.Result.{err_from_is_err_and}
+use Rattle.jobfile.proofs.ReaderLaws.{judged_good}
+use Rattle.host.proofs.SizesLaws.{copy_refused, copy_short, copied_all}
+use Rattle.host.proofs.sizes.copy_sizes.Goals as goal
+
+pub returns-in_err-judge : goal.returns-in_err-judge
+returns-in_err-judge c = let p = err_from_is_err_and c.from_residual.result c.from_residual.ensures.1 in rw (p.1, p.2) (copy_refused c.args.sizes.now c.in_err-judge.ensures)
+
+pub read-jobs-requires : goal.read-jobs-requires
+read-jobs-requires c = (judged_good c.in_ok-judge.ensures).at_least
+
+pub returns-then-sizes-count : goal.returns-then-sizes-count
+returns-then-sizes-count c = copy_short c.args.sizes.now (judged_good c.in_ok-judge.ensures) c.read-jobs.ensures c.if-sizes-count.true
+
+pub put_sizes-requires : goal.put_sizes-requires
+put_sizes-requires c = ((judged_good c.in_ok-judge.ensures).contents_inside, omega arith, omega arith)
+
+pub returns : goal.returns
+returns c = copied_all c.args.sizes.now (judged_good c.in_ok-judge.ensures) c.read-jobs.ensures c.if-sizes-count.false c.put_sizes.ensures
