@@ -21,12 +21,12 @@ pub fn apart(table: &[u32], class: &mut [u16])
 }
 
 // The number of nodes less the number of classes: how many nodes have another name than their own. The
-// row tells it without the words, since an entry is 0 just where no node is. A loop: by `filter` and
-// `count` the compiler does not take several entries at a time, and a match takes a fifth longer.
+// row tells it without the words, since an entry is 0 just where no node is.
 pub fn count_joins(table: &[u32], class: &[u16]) -> u16
     requires { (length table.now ≤ length class.now) × (length table.now ≤ most_words) × NamesNodes (graph_of table.now) class.now }
     ensures { result ≡ joins (graph_of table.now) class.now }
 {
+    // Kept: by `filter` and `count` the compiler takes one entry at a time, and a match a fifth longer.
     let mut joined = 0;
     for x in 0..table.len() {
         if class[x] != 0 && class[x] != x as u16 {
