@@ -4,10 +4,10 @@
 -- (`all_partitioned`); up to the first clash (`until_end`, `until_clash`). Assumes nothing.
 use mathlib.Core.Path.{◌≡◌, refl, sym, ap, ◌∙◌, subst}
 use mathlib.Core.List.Memᴰ
-use mathlib.Core.List.{List, [], ◌∷◌, ◌++◌}
-use Prim.Native.Nat.{ℕ, zero, suc, ◌+◌, ◌-◌, ◌*◌, ◌≤◌, ◌<◌}
+use mathlib.Core.List.{List, [], ◌++◌}
+use Prim.Native.Nat.{ℕ, ◌+◌, ◌-◌, ◌*◌, ◌≤◌, ◌<◌}
 use native.Mathlib.Omega.{arith}
-use lib.ListN.{length, take, drop}
+use lib.ListN.{length, take, drop, length-take}
 use lib.Seq.{take-take, length-take-le}
 use Rattle.std.specs.Prelude.{Result, Ok, Err, IsOk}
 use Rattle.words.specs.declared.numbers.PairNumber.{PairNumber}
@@ -53,11 +53,6 @@ standing_after {t} {list} {class} {work} s l =
 pub first_sides : {S : Symbols} {G : Graph S} {pairs : List Pair} → Sides G pairs → (k : ℕ) → k ≤ length pairs → Sides G (take k pairs)
 first_sides {pairs = pairs} sides k h p m = sides p (first_in_whole pairs k p h m)
 
-first_no_longer : {A : Type 0} (k : ℕ) (l : List A) → length (take k l) ≤ length l
-first_no_longer zero l = omega arith
-first_no_longer (suc k) [] = omega arith
-first_no_longer (suc k) (x ∷ l) = omega (arith, first_no_longer k l)
-
 module _ {t list class work class_apart : List ℕ} {k : ℕ} (s : Standing t list class work) (inside : k ≤ length (pairs_of list))
     (apart_row : class_apart ≡ apart (graph_of t) ++ drop (length t) class) (long : length class_apart ≡ length class) where
   pub first_joinable : Joinable t [] (take (2 * k) list) class_apart (length work)
@@ -70,7 +65,7 @@ module _ {t list class work class_apart : List ℕ} {k : ℕ} (s : Standing t li
         class_table = apart_front t class_apart (drop (length t) class) s.ready.passed.well_formed apart_row;
         no_clash = no_pairs_no_clash s.ready.passed.well_formed;
         sides = subst (Sides (graph_of t)) (sym (pairs_of-take list k)) (first_sides s.ready.sides k inside);
-        numbered = omega (arith, s.ready.few, first_no_longer (2 * k) list);
+        numbered = omega (arith, s.ready.few, length-take (2 * k) list);
       }
 
   module _ {answer : Result (Unit {0}) PairNumber} {class_after work_after : List ℕ} (joined : JoinOf t (take (2 * k) list) class_apart work answer class_after work_after) (long_after : length class_after ≡ length class_apart) where

@@ -7,10 +7,7 @@ use mathlib.Core.List.{List, [], ◌∷◌}
 use Prim.Native.Nat.{ℕ, ◌+◌, ◌*◌, ◌/◌, ◌%◌, ◌≤◌, ◌<◌}
 use native.Mathlib.Omega.{arith}
 use lib.ListN.{length, get_or}
-use Rattle.std.specs.Prelude.{Option, Some, None}
-use Rattle.std.specs.Option.{MatchOption}
 use Rattle.words.specs.Limits.{most_entries}
-use Rattle.answering.specs.Answers.{Found}
 use Rattle.graphs.specs.Partition.{pairs_of}
 use Rattle.table.specs.Table.{kind_at, node_kind}
 use Rattle.table.specs.Faults.{pair_at, odd, bad_sides}
@@ -52,9 +49,3 @@ module _ (t list : List ℕ) (k : ℕ) (inside : 2 * k + 1 < length list) where
   left_no_node {a} e s =
       ap not s
       ∙ sym (sides_by_entries ∙ ap (λ (c : Bool). not (c && node_kind (kind_at t (get_or list (2 * k + 1) 0)))) (sym e ∙ s))
-
--- what `find` over the numbers below n says
-pub found_below : (test : ℕ → Bool) {m n : ℕ} (r : Option ℕ) → m ≡ n
-    → MatchOption r ((k : ℕ) → 0 ≤ k → k < m → test k ≡ false) (λ i. (0 ≤ i) × (i < m) × (test i ≡ true) × ((k : ℕ) → 0 ≤ k → k < i → test k ≡ false)) → Found test n r
-found_below test (Some i) e f = (omega (arith, e, f.1), f.2, λ k h. f.3 k (omega arith) h)
-found_below test None e f = λ k h. f k (omega arith) (omega (arith, e))

@@ -6,17 +6,8 @@ use lib.ListN.{length-set}
 use Rattle.classes.proofs.Climbs.{climb_none, climb_higher, climb_more, climb_less, climb_end}
 use Rattle.classes.proofs.forest.root.Goals as goal
 
-pub up-above-requires : goal.up-above-requires
-up-above-requires c = omega (arith, c.requires.0.long)
-
 pub loop-above-init : goal.loop-above-init
 loop-above-init c = climb_none c.requires.0 c.requires.1 c.up-above.ensures
-
-pub up-higher-requires : goal.up-higher-requires
-up-higher-requires c = omega (arith, c.loop-above.invariant.room, c.loop-above.invariant.above_inside)
-
-pub bounds-class-at : goal.bounds-class-at
-bounds-class-at c = omega (arith, c.loop-above.invariant.room, c.loop-above.invariant.at_inside)
 
 pub up-above-requires-in-loop-above : goal.up-above-requires-in-loop-above
 up-above-requires-in-loop-above c = simp length-set (omega (arith, climb_higher c.loop-above.invariant c.up-higher.ensures, c.loop-above.invariant.room))
@@ -26,9 +17,6 @@ loop-above-smaller c = climb_less c.loop-above.invariant (search rules) c.up-hig
 
 pub loop-above-preserved : goal.loop-above-preserved
 loop-above-preserved c = climb_more c.loop-above.invariant c.up-higher.ensures c.up-above-in-loop-above.ensures
-
-pub shape_of-class : goal.shape_of-class
-shape_of-class c = c.loop-above.invariant.shorter.long
 
 pub returns : goal.returns
 returns c = climb_end c.loop-above.invariant (search rules)

@@ -12,12 +12,6 @@ head-requires c = (c.requires.0.readable, c.requires.0.well_formed.inside _ c.re
 pub head-requires-2 : goal.head-requires-2
 head-requires-2 c = (c.requires.0.readable, c.requires.0.well_formed.inside _ c.requires.2.later_node)
 
-pub bounds-class-later : goal.bounds-class-later
-bounds-class-later c = omega (arith, c.requires.0.well_formed.inside _ c.requires.2.later_node, c.requires.1.forest.long)
-
-pub bounds-class-later-in-JoinedGoDown : goal.bounds-class-later-in-JoinedGoDown
-bounds-class-later-in-JoinedGoDown c = omega (arith, c.requires.0.well_formed.inside _ c.requires.2.later_node, c.requires.1.forest.long)
-
 pub push-requires : goal.push-requires
 push-requires c = let w : _ = room_to_wait c.requires.0 c.requires.1 c.requires.2 in
     (omega (arith, w, c.requires.1.work_room), omega (arith, w, c.requires.0.readable.small))

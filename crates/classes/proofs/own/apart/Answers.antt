@@ -1,7 +1,6 @@
 -- `classes::own::apart` meets its contract. The loop's invariant is `Built`: the row is made from the front. Assumes nothing.
 use mathlib.Core.Path.{refl, sym, ap, ◌∙◌}
 use mathlib.Core.Bool.{Bool, cond}
-use native.Mathlib.Omega.{arith}
 use Rattle.rows.proofs.Laws.{built_none, built_all}
 use Rattle.classes.proofs.OwnClasses.{apart_long, apart_more}
 use Rattle.classes.proofs.own.apart.Goals as goal
@@ -9,12 +8,6 @@ use Rattle.classes.proofs.own.apart.Goals.{then-is_node_word, else-is_node_word}
 
 pub loop-x-init : goal.loop-x-init
 loop-x-init c = built_none (apart_long c.args.table.now) c.requires.0
-
-pub overflow_cast-class : goal.overflow_cast-class
-overflow_cast-class c = omega (arith, c.requires.1)
-
-pub bounds-class-x : goal.bounds-class-x
-bounds-class-x c = omega (arith, c.requires.0)
 
 pub loop-x-preserved : goal.loop-x-preserved
 loop-x-preserved c =

@@ -13,18 +13,6 @@ use Rattle.classes.proofs.own.count_joins.Goals.{then-class-x-ne0+then-class-x, 
 pub loop-x-init : goal.loop-x-init
 loop-x-init c = counted_none c.args.table.now c.args.class.now
 
-pub bounds-class-x : goal.bounds-class-x
-bounds-class-x c = omega (arith, c.requires.0)
-
-pub bounds-class-x-then-class-x-ne0 : goal.bounds-class-x-then-class-x-ne0
-bounds-class-x-then-class-x-ne0 c = omega (arith, c.requires.0)
-
-pub overflow_cast-x : goal.overflow_cast-x
-overflow_cast-x c = omega (arith, c.requires.1)
-
-pub overflow_add-joined : goal.overflow_add-joined
-overflow_add-joined c = omega (arith, c.requires.1, c.loop-x.invariant.few, c.loop-x.invariant.within)
-
 pub loop-x-preserved : goal.loop-x-preserved
 loop-x-preserved c =
     elim c.if-class-x-ne0.branch [

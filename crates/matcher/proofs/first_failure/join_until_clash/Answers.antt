@@ -8,9 +8,6 @@ use Rattle.matcher.proofs.first_failure.join_until_clash.Goals as goal
 pub join_first-joined-requires : goal.join_first-joined-requires
 join_first-joined-requires c = (c.requires, omega (arith, half_entries c.args.list.now))
 
-pub overflow_sub-before : goal.overflow_sub-before
-overflow_sub-before c = (before_clash (omega (arith, half_entries c.args.list.now)) c.in-Err.ensures).0
-
 pub join_first-requires : goal.join_first-requires
 join_first-requires c = (standing_after c.requires c.join_first-joined.ensures.lent, omega (arith, half_entries c.args.list.now, (before_clash (omega (arith, half_entries c.args.list.now)) c.in-Err.ensures).1))
 

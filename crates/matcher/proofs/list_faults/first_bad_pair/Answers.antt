@@ -1,5 +1,5 @@
 -- `matcher::list_faults::first_bad_pair` meets its contract. Assumes nothing.
-use mathlib.Core.Path.{◌≡◌}
+use mathlib.Core.Path.{◌≡◌, subst}
 use mathlib.Core.Bool.{Bool, true, false}
 use Prim.Native.Nat.{ℕ}
 use native.Mathlib.Omega.{arith}
@@ -8,7 +8,9 @@ use Rattle.std.proofs.Common.{tests}
 use Rattle.std.proofs.lemmas.Iterator.{first_from_Range, serves_from_Range}
 use Rattle.graphs.specs.Partition.{pairs_of}
 use Rattle.table.specs.Faults.{pair_at, bad_sides}
-use Rattle.matcher.proofs.ListLaws.{half_entries, found_below}
+use Rattle.answering.specs.Answers.{Found}
+use Rattle.shape.proofs.Search.{found_in_range}
+use Rattle.matcher.proofs.ListLaws.{half_entries}
 use Rattle.matcher.proofs.list_faults.first_bad_pair.Goals as goal
 
 pub find-requires-clause-callable : goal.find-requires-clause-callable
@@ -17,5 +19,6 @@ find-requires-clause-callable c = serves_from_Range (λ x q k. search (rules, te
 pub returns : goal.returns
 returns c =
     let bad : ℕ → Bool = λ k. bad_sides c.args.table.now (pair_at (pairs_of c.args.list.now) k) in
-    found_below bad _ (half_entries c.args.list.now)
-    (first_from_Range _ _ _ _ (λ k. bad k ≡ true) (λ k. bad k ≡ false) c.find.ensures.ran (λ x q k. search (rules, tests)) (λ x q k. (search (rules, tests), search (rules, tests))))
+    subst (λ (n : ℕ). Found bad n c.find.result) (half_entries c.args.list.now)
+    (found_in_range bad _ _
+    (first_from_Range _ _ _ _ (λ k. bad k ≡ true) (λ k. bad k ≡ false) c.find.ensures.ran (λ x q k. search (rules, tests)) (λ x q k. (search (rules, tests), search (rules, tests)))))
