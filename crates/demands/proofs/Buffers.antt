@@ -14,10 +14,10 @@ use Rattle.answering.specs.Buffers.{changes_nothing, left}
 use Rattle.answering.proofs.BufferLaws.{early_changes, late_changes, left_same, left-zeroed}
 use Rattle.checker.specs.Check.{Checked, CheckOf, number_of as check_number}
 use Rattle.matcher.specs.Match.{Matched, number_of, MatchOf}
-use Rattle.jobfile.specs.declared.answers.WriteAnswer.{WriteAnswer}
-use Rattle.jobfile.specs.declared.answers.WriteAnswer.TheVariants.{Written, Contents, Body, File, Room as NoRoom}
+use Rattle.std.specs.Prelude.{Ok, Err}
+use Rattle.jobfile.specs.declared.answers.WriteFault.TheVariants.{Contents, Body, File, Room as NoRoom}
 use Rattle.jobfile.specs.File.{file_of}
-use Rattle.jobfile.specs.Writer.{WriteOf, room_written, number_of as write_number}
+use Rattle.jobfile.specs.Writer.{WriteAnswer, WriteOf, room_written, number_of as write_number}
 
 -- what is in front then
 pub left_front : (a n : ℕ) (row : List ℕ) → changes_nothing a ≡ false → take n (left a n row) ≡ replicate n 0
@@ -58,11 +58,11 @@ module _ {t class work : List ℕ} {r : Checked} {class_after work_after : List 
 
 write_left : (r : WriteAnswer) (file room : List ℕ) → (write_number r ≡ 0 → ⊥) → room_written r file room ≡ room
 unfolding room_written
-write_left Written file room refused = absurd (refused refl)
-write_left Contents file room refused = refl
-write_left Body file room refused = refl
-write_left File file room refused = refl
-write_left NoRoom file room refused = refl
+write_left (Ok done) file room refused = absurd (refused refl)
+write_left (Err Contents) file room refused = refl
+write_left (Err Body) file room refused = refl
+write_left (Err File) file room refused = refl
+write_left (Err NoRoom) file room refused = refl
 
 pub write_untouched : {sizes bodies room after : List ℕ} {r : WriteAnswer} → WriteOf sizes bodies room r after → (write_number r ≡ 0 → ⊥) → after ≡ room
 write_untouched {sizes} {bodies} {room} {r = r} w refused = w.room_left ∙ write_left r (file_of sizes bodies) room refused

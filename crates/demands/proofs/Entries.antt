@@ -9,6 +9,7 @@ use mathlib.Core.List.{List, [], ◌∷◌, ◌++◌}
 use Prim.Native.Nat.{ℕ, ◌*◌, ◌≤◌}
 use native.Mathlib.Decide.{ℕ_discrete}
 use lib.ListN.{length, take, drop, replicate}
+use Rattle.std.specs.Prelude.{Ok, Err}
 use Rattle.answering.specs.Answers.{Answered}
 use Rattle.answering.specs.Buffers.{changes_nothing}
 use Rattle.answering.proofs.Orders.{passed_none}
@@ -24,7 +25,7 @@ use Rattle.matcher.proofs.Demands.{accepted_passes, accepted_class_table, accept
 use Rattle.matcher.proofs.Verdicts.{at_most}
 use Rattle.jobfile.specs.File.{count_in, sizes_in, file_of}
 use Rattle.jobfile.specs.Faults.{ROOM, file_number, WriteFault, read_order, write_order}
-use Rattle.jobfile.specs.Writer.{number_of as write_number}
+use Rattle.jobfile.specs.Writer.{WriteAnswer, place_of as write_place, number_of as write_number}
 use Rattle.jobfile.proofs.FileLaws.{length-sizes_from}
 use Rattle.host.specs.AsOne.{as_one, answer_in, place_in, joins_in}
 use Rattle.host.specs.Sizes.{SizesFault, SizesOf}
@@ -146,8 +147,15 @@ pub write_entry_old_contents : {sizes bodies room other : List ℕ} {r s : ℕ} 
 write_entry_old_contents long a b =
     let same = write_old_contents long a.written b.written in (a.is ∙ ap write_number same.0 ∙ sym b.is, λ z. same.1 (sym a.is ∙ z))
 
+-- the writer's place is 0
+written_at_0 : (answer : WriteAnswer) → write_place answer ≡ 0
+written_at_0 (Ok done) = refl
+written_at_0 (Err fault) = refl
+
 pub write_entry_answered : {sizes bodies room after : List ℕ} {r : ℕ} → WrittenOf sizes bodies room r after → Answered file_number (WriteFault sizes bodies room) write_order r 0
-write_entry_answered {sizes} {bodies} {room} h = subst (λ (n : ℕ). Answered file_number (WriteFault sizes bodies room) write_order n 0) (sym h.is) h.written.answered
+write_entry_answered {sizes} {bodies} {room} h =
+    subst (λ (n : ℕ). Answered file_number (WriteFault sizes bodies room) write_order n 0) (sym h.is)
+    (subst (Answered file_number (WriteFault sizes bodies room) write_order (write_number h.answer)) (written_at_0 h.answer) h.written.answered)
 
 pub write_entry_untouched : {sizes bodies room after : List ℕ} {r : ℕ} → WrittenOf sizes bodies room r after → (r ≡ 0 → ⊥) → after ≡ room
 write_entry_untouched h refused = write_untouched h.written (λ e. refused (h.is ∙ e))

@@ -17,11 +17,11 @@ use Rattle.table.specs.Faults.{Job, Row, Fault, room_fault, number, size_rows, t
 use Rattle.checker.specs.Check.{Checked, CheckOf, number_of as check_number, place_of as check_place, checked_job}
 use Rattle.matcher.specs.Match.{Matched, number_of, place_of, MatchOf, job_of}
 use Rattle.matcher.proofs.Verdicts.{at_most}
-use Rattle.jobfile.specs.declared.answers.WriteAnswer.{WriteAnswer}
-use Rattle.jobfile.specs.declared.answers.WriteAnswer.TheVariants.{Written, Contents, Body, File, Room as NoRoom}
+use Rattle.std.specs.Prelude.{Ok, Err}
+use Rattle.jobfile.specs.declared.answers.WriteFault.TheVariants.{Contents, Body, File, Room as NoRoom}
 use Rattle.jobfile.specs.File.{file_of}
 use Rattle.jobfile.specs.Faults.{WriteFault, room_refused, write_order, file_number}
-use Rattle.jobfile.specs.Writer.{WriteOf, number_of as write_number}
+use Rattle.jobfile.specs.Writer.{WriteAnswer, WriteOf, number_of as write_number}
 use Rattle.jobfile.proofs.Theorems.{writer_writes_good}
 use Rattle.demands.proofs.Buffers.{write_untouched}
 
@@ -86,11 +86,11 @@ module _ {sizes bodies room : List ℕ} where
   write_length {r} {after} w = go (ℕ_discrete (write_number r) 0)
     where
       written : (s : WriteAnswer) → WriteOf sizes bodies room s after → write_number s ≡ 0 → length after ≡ length room
-      written Written v z = ap length (writer_writes_good v).1 ∙ front_length (file_of sizes bodies) room refl (file_fits v.answered)
-      written Contents v z = absurd (omega (arith, z))
-      written Body v z = absurd (omega (arith, z))
-      written File v z = absurd (omega (arith, z))
-      written NoRoom v z = absurd (omega (arith, z))
+      written (Ok done) v z = ap length (writer_writes_good v).1 ∙ front_length (file_of sizes bodies) room refl (file_fits v.answered)
+      written (Err Contents) v z = absurd (omega (arith, z))
+      written (Err Body) v z = absurd (omega (arith, z))
+      written (Err File) v z = absurd (omega (arith, z))
+      written (Err NoRoom) v z = absurd (omega (arith, z))
 
       go : Dec (write_number r ≡ 0) → length after ≡ length room
       go (no refused) = ap length (write_untouched w refused)

@@ -16,10 +16,10 @@ use Rattle.checker.specs.Check.{Checked, CheckOf, number_of as check_number}
 use Rattle.checker.proofs.OneCheck.{check_answer_only}
 use Rattle.matcher.specs.Match.{Matched, MatchOf, number_of}
 use Rattle.matcher.proofs.OneMatch.{match_answer_only, same_tables}
-use Rattle.jobfile.specs.declared.answers.WriteAnswer.{WriteAnswer}
-use Rattle.jobfile.specs.declared.answers.WriteAnswer.TheVariants.{Written, Contents, Body, File, Room as NoRoom}
+use Rattle.std.specs.Prelude.{Ok, Err}
+use Rattle.jobfile.specs.declared.answers.WriteFault.TheVariants.{Contents, Body, File, Room as NoRoom}
 use Rattle.jobfile.specs.File.{count_in, sizes_in, file_of}
-use Rattle.jobfile.specs.Writer.{WriteOf, room_written, number_of as write_number}
+use Rattle.jobfile.specs.Writer.{WriteAnswer, WriteOf, room_written, number_of as write_number}
 use Rattle.jobfile.proofs.FileLaws.{length-sizes_from}
 use Rattle.jobfile.proofs.WriteAnswers.{write_answer_only}
 use Rattle.jobfile.specs.Jobs.{words_of}
@@ -90,11 +90,11 @@ host_old_contents long a b =
 
 written_front : (r : WriteAnswer) (file room : List ℕ) → write_number r ≡ 0 → take (length file) (room_written r file room) ≡ file
 unfolding room_written
-written_front Written file room z = take_at file (drop (length file) room) (length file) refl
-written_front Contents file room z = absurd (omega (arith, z))
-written_front Body file room z = absurd (omega (arith, z))
-written_front File file room z = absurd (omega (arith, z))
-written_front NoRoom file room z = absurd (omega (arith, z))
+written_front (Ok done) file room z = take_at file (drop (length file) room) (length file) refl
+written_front (Err Contents) file room z = absurd (omega (arith, z))
+written_front (Err Body) file room z = absurd (omega (arith, z))
+written_front (Err File) file room z = absurd (omega (arith, z))
+written_front (Err NoRoom) file room z = absurd (omega (arith, z))
 
 pub write_old_contents : {sizes bodies room other : List ℕ} {r s : WriteAnswer} {room₁ room₂ : List ℕ} → length room ≡ length other → WriteOf sizes bodies room r room₁
     → WriteOf sizes bodies other s room₂

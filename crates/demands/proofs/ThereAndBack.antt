@@ -9,12 +9,9 @@ use lib.Seq.{take_at}
 use Rattle.graphs.specs.Partition.{pairs_of}
 use Rattle.jobfile.specs.File.{count_in, words_in, pairs_in, body_in, GoodFile}
 use Rattle.jobfile.specs.Jobs.{FileJob, sizes_of, bodies_of, file_of_jobs, Holdable, job_in, jobs_in, entry_of, table_of, list_of}
-use Rattle.jobfile.specs.Reader.{ReadOf}
-use Rattle.jobfile.specs.Writer.{WriteOf}
-use Rattle.jobfile.specs.declared.answers.FileAnswer.{FileAnswer}
-use Rattle.jobfile.specs.declared.answers.FileAnswer.TheVariants.{Good}
-use Rattle.jobfile.specs.declared.answers.WriteAnswer.{WriteAnswer}
-use Rattle.jobfile.specs.declared.answers.WriteAnswer.TheVariants.{Written}
+use Rattle.jobfile.specs.Reader.{FileAnswer, ReadOf}
+use Rattle.jobfile.specs.Writer.{WriteAnswer, WriteOf}
+use Rattle.std.specs.Prelude.{Ok}
 use Rattle.jobfile.specs.declared.sizes.Sizes.{Sizes}
 use Rattle.jobfile.proofs.Theorems.{jobs_written, jobs_read_back, job_body}
 
@@ -25,7 +22,7 @@ module _ {jobs : List FileJob} {room after : List ℕ} {written : WriteAnswer} {
       ap (take (length (file_of_jobs jobs))) (jobs_written holdable enough w).1
       ∙ take_at (file_of_jobs jobs) (drop (length (file_of_jobs jobs)) room) (length (file_of_jobs jobs)) refl
 
-  pub jobs_there_and_back : (written ≡ Written) × (answer ≡ Good) × (take sizes.count sizes.row ≡ sizes_of jobs) × (jobs_in (take (length (file_of_jobs jobs)) after) ≡ jobs)
+  pub jobs_there_and_back : (written ≡ Ok tt) × (answer ≡ Ok tt) × (take sizes.count sizes.row ≡ sizes_of jobs) × (jobs_in (take (length (file_of_jobs jobs)) after) ≡ jobs)
   jobs_there_and_back =
       let back = jobs_read_back holdable (subst (λ (bytes : List ℕ). ReadOf bytes answer sizes) front r) in
       ((jobs_written holdable enough w).0, back.0, back.1, ap jobs_in front ∙ back.2)

@@ -5,7 +5,7 @@
 --                       bodies_wrong, bodies_past, bodies_follow, bodies_good: how it ends
 --     the whole         judged_file, judged_contents, judged_bodies
 --     one answer        read_once, answered_once, fault_refuses, judged_only, read_only, bodies_only
---     a good file       body_inside, good_judged, judged_good, good_number
+--     a good file       body_inside, good_judged, judged_good
 -- Assumes nothing.
 use mathlib.Core.Path.{◌≡◌, refl, sym, ap, ap₂, ◌∙◌, subst}
 use mathlib.Core.HLevel.{is_prop→PathP}
@@ -261,10 +261,3 @@ module _ {bytes : List ℕ} where
   judged_good judged =
       let rows = (passed_none file_number (ReadFault bytes) read_order 0 0 refl refl judged).0 in
       all_good (not_contents (not_file rows.0) rows.1.0) (λ p lowest. rows.1.1.0 p (body_fault lowest))
-
--- an answer of number 0
-pub good_number : (r : FileAnswer) → number_of r ≡ 0 → r ≡ Ok tt
-good_number (Ok good) e = refl
-good_number (Err File) e = absurd (omega arith)
-good_number (Err Contents) e = absurd (omega arith)
-good_number (Err (Body entry)) e = absurd (omega arith)

@@ -3,8 +3,7 @@
 use Rattle.std.specs.Prelude.{◌≡◌, List, ℕ}
 use Rattle.checker.specs.Check.{Checked, CheckOf, number_of as check_number, place_of as check_place, joins_of as check_joins}
 use Rattle.matcher.specs.Match.{Matched, MatchOf, number_of, place_of, joins_of}
-use Rattle.jobfile.specs.Writer.{WriteOf, number_of as write_number}
-use Rattle.jobfile.specs.declared.answers.WriteAnswer.{WriteAnswer}
+use Rattle.jobfile.specs.Writer.{WriteAnswer, WriteOf, number_of as write_number}
 use Rattle.host.specs.AsOne.{as_one}
 
 -- the one answer of a match, as a number, and the buffers that the match leaves

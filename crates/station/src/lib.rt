@@ -11,6 +11,8 @@ ghost use Rattle.host.specs.Host.{HostOf};
 ghost use Rattle.host.specs.Sizes.{SizesOf};
 ghost use Rattle.station.specs.Entries.{LentOf, CheckedOf, WrittenOf};
 
+use answering::answer::Answer;
+
 // The answer for the job of a number, from 1, in a job file.
 //
 // 12, 13 and 14 are the file's, 15 is for a number that no job has, 1 is for its table's size, and 2 for room under 6 + 2n
@@ -41,7 +43,7 @@ pub fn station_check(table: &[u32], class: &mut [u16], work: &mut [u16]) -> u64
 pub fn station_write(sizes: &[u16], bodies: &[u8], room: &mut [u8]) -> u16
     ensures { WrittenOf sizes.now bodies.now room.old result room.new }
 {
-    jobfile::answers::write_number(jobfile::write(sizes, bodies, room))
+    jobfile::write(sizes, bodies, room).number()
 }
 
 // Answer + 65,536 x place + 4,294,967,296 x J of a job file, and its 2J sizes.

@@ -10,13 +10,11 @@ use Rattle.answering.specs.Buffers.{changes_nothing}
 use Rattle.table.specs.Faults.{Fault, number, check_order, match_order}
 use Rattle.checker.specs.Check.{Checked, CheckOf, number_of as check_number, place_of as check_place, checked_job}
 use Rattle.matcher.specs.Match.{Matched, MatchOf, number_of, place_of, joins_of, job_of}
-use Rattle.jobfile.specs.declared.answers.FileAnswer.{FileAnswer}
-use Rattle.jobfile.specs.declared.answers.WriteAnswer.{WriteAnswer}
 use Rattle.jobfile.specs.declared.sizes.Sizes.{Sizes}
 use Rattle.jobfile.specs.Faults.{ROOM, ReadFault, WriteFault, read_order, write_order, file_number}
 use Rattle.jobfile.specs.File.{count_in, file_of}
-use Rattle.jobfile.specs.Reader.{ReadOf, number_of as read_number, place_of as read_place}
-use Rattle.jobfile.specs.Writer.{WriteOf, number_of as write_number, place_of as write_place}
+use Rattle.jobfile.specs.Reader.{FileAnswer, ReadOf, number_of as read_number, place_of as read_place}
+use Rattle.jobfile.specs.Writer.{WriteAnswer, WriteOf, number_of as write_number, place_of as write_place}
 use Rattle.host.specs.AsOne.{answer_in, place_in, joins_in}
 use Rattle.jobfile.specs.Jobs.{words_of}
 use Rattle.host.specs.Host.{HostOf, HostFault, host_order, report_of, writes_nothing, host_number}

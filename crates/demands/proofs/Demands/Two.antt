@@ -10,15 +10,12 @@ use Rattle.graphs.specs.Partition.{pairs_of, Same, Smallest, entry, ClassTable, 
 use Rattle.table.specs.Table.{graph_of}
 use Rattle.matcher.specs.Match.{Matched, MatchOf, Passes, number_of, place_of, joins_of, job_of}
 use Rattle.matcher.specs.Demands.{FirstUnmet}
-use Rattle.jobfile.specs.declared.answers.FileAnswer.{FileAnswer}
-use Rattle.jobfile.specs.declared.answers.FileAnswer.TheVariants.{Good}
-use Rattle.jobfile.specs.declared.answers.WriteAnswer.{WriteAnswer}
-use Rattle.jobfile.specs.declared.answers.WriteAnswer.TheVariants.{Written}
+use Rattle.std.specs.Prelude.{Ok}
 use Rattle.jobfile.specs.declared.sizes.Sizes.{Sizes}
 use Rattle.jobfile.specs.File.{count_in, sizes_in, GoodFile}
 use Rattle.jobfile.specs.Jobs.{FileJob, sizes_of, bodies_of, file_of_jobs, Holdable, jobs_in, entry_of, words_of, table_of, list_of}
-use Rattle.jobfile.specs.Reader.{ReadOf, BodiesOf}
-use Rattle.jobfile.specs.Writer.{WriteOf}
+use Rattle.jobfile.specs.Reader.{FileAnswer, ReadOf, BodiesOf}
+use Rattle.jobfile.specs.Writer.{WriteAnswer, WriteOf}
 use Rattle.host.specs.AsOne.{answer_in, place_in, joins_in}
 use Rattle.host.specs.Host.{HostOf, report_of}
 use Rattle.host.specs.Sizes.{SizesOf}
@@ -103,19 +100,19 @@ host_call_refuses_at_first h passes = host_refused_at_first passes h
 
 -- ==== "A job file that is read and written again has the same bytes,"
 
-pub accepted_file_is_good : {bytes : List ℕ} {r : FileAnswer} {sizes : Sizes} → ReadOf bytes r sizes → (r ≡ Good → GoodFile bytes) × (GoodFile bytes → r ≡ Good)
+pub accepted_file_is_good : {bytes : List ℕ} {r : FileAnswer} {sizes : Sizes} → ReadOf bytes r sizes → (r ≡ Ok tt → GoodFile bytes) × (GoodFile bytes → r ≡ Ok tt)
 accepted_file_is_good = reader_accepts_good
 
 pub file_written_again_is_same : {bytes part room after : List ℕ} {r : FileAnswer} {sizes : Sizes} {written : WriteAnswer} → AllBytes bytes → GoodFile bytes
     → ReadOf bytes r sizes → BodiesOf bytes part → length bytes ≤ length room → WriteOf (take sizes.count sizes.row) part room written after
-    → (written ≡ Written) × (after ≡ bytes ++ drop (length bytes) room)
+    → (written ≡ Ok tt) × (after ≡ bytes ++ drop (length bytes) room)
 file_written_again_is_same = good_read_written_again
 
 -- ==== "and jobs written to a file are read back as the same jobs."
 
 pub jobs_come_back : {jobs : List FileJob} {room after : List ℕ} {written : WriteAnswer} {r : FileAnswer} {sizes : Sizes} → Holdable jobs
     → length (file_of_jobs jobs) ≤ length room → WriteOf (sizes_of jobs) (bodies_of jobs) room written after → ReadOf (take (length (file_of_jobs jobs)) after) r sizes
-    → (written ≡ Written) × (r ≡ Good) × (take sizes.count sizes.row ≡ sizes_of jobs) × (jobs_in (take (length (file_of_jobs jobs)) after) ≡ jobs)
+    → (written ≡ Ok tt) × (r ≡ Ok tt) × (take sizes.count sizes.row ≡ sizes_of jobs) × (jobs_in (take (length (file_of_jobs jobs)) after) ≡ jobs)
 jobs_come_back = jobs_there_and_back
 
 -- the host is given their sizes,
