@@ -11,6 +11,9 @@
 // to one on 16 bits, and labels that agree in their low bits are spread too. A chain has at most
 // 65,536 / 3n + 1 labels before one repeats, and no table takes more than about 11,000 comparisons of
 // labels.
+//
+// Kept: the chains are numbers in a row that is lent, since there is no heap. That they are chains up to
+// an address is asked in a clause and is no invariant of a struct, since the address goes up with each step.
 ghost use Rattle.std.specs.Prelude.{◌≡◌, ◌+◌, ◌*◌, ◌<◌, ◌≤◌, length};
 ghost use Rattle.words.specs.Limits.{most_words};
 ghost use Rattle.words.specs.declared.kind.Kind.{Kind};
