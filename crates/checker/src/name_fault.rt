@@ -84,7 +84,7 @@ pub(crate) fn repeats_variable(table: &[u32], work: &mut [u16], at: usize) -> bo
     requires { Chained table.now work.old at × (at < length table.now) × (kind_at table.now at ≡ Kind.Variable) }
     ensures { NameJudged table.now work.old work.new at result }
 {
-    if label_at(table, at).0 == UNNAMED {
+    if label_at(table, at) == UNNAMED {
         return false;
     }
     if stood_earlier(table, work, at) {
