@@ -1,7 +1,8 @@
 -- A file that was read, and written or refused (`read_written`, `read_refused`); what is put into the room (`put_again`,
 -- `put_refused`); one result (`again_only`). Assumes nothing.
 use mathlib.Core.Path.{◌≡◌, refl, ap₂, subst}
-use mathlib.Core.List.{List}
+use mathlib.Core.Logic.{inl, inr}
+use mathlib.Core.List.{List, []}
 use Prim.Native.Nat.{ℕ, ◌≤◌}
 use native.Mathlib.Omega.{arith}
 use lib.ListN.{length, take}
@@ -9,24 +10,32 @@ use Rattle.std.specs.Prelude.{Ok, Err}
 use Rattle.rows.specs.LittleEndian.{AllBytes}
 use Rattle.words.specs.Limits.{most_bytes}
 use Rattle.jobfile.specs.File.{GoodFile}
-use Rattle.jobfile.specs.Reader.{FileAnswer, fault_number, fault_place, Judged, ReadOf, BodiesOf}
+use Rattle.jobfile.specs.Reader.{FileAnswer, fault_number, fault_place, Judged, yielded_sizes, ReadOf, BodiesOf}
 use Rattle.jobfile.specs.Writer.{WriteAnswer, WriteOf}
 use Rattle.jobfile.specs.declared.answers.FileFault.{FileFault}
 use Rattle.jobfile.specs.declared.answers.FileFault.TheVariants.{File, Contents, Body}
 use Rattle.jobfile.specs.declared.sizes.Sizes.{Sizes}
 use Rattle.jobfile.proofs.ReaderLaws.{answered_once, judged_good, good_judged}
-use Rattle.jobfile.proofs.Theorems.{reader_accepts_good, good_read_written_again}
+use Rattle.jobfile.proofs.WriteAnswers.{write_contents, write_only}
+use Rattle.jobfile.proofs.Theorems.{reader_accepts_good, read_sizes, good_read_written_again}
 use Rattle.lines.specs.Lines.{file_line, LineIn, TextIn}
 use Rattle.again.specs.Again.{AgainOf, same_bytes, refusal}
 use Rattle.again.specs.Steps.Rewriting.{room_again, Rewritten}
 
--- a file that was read is judged by what was read of it, and written where that is good
+-- the writer refuses an empty row of sizes
+nothing_written : {sizes bodies room after : List ℕ} {w : WriteAnswer} → sizes ≡ [] → WriteOf sizes bodies room w after → after ≡ room
+nothing_written {sizes} {bodies} {room} {after} {w} e r =
+    (write_only (subst (λ (l : List ℕ). WriteOf l bodies room w after) e r) (write_contents [] bodies room (inr (inl refl)))).1
+
+-- a file that was read, and of which what is yielded was written: also where it is refused, and an empty row is yielded
 pub read_written : {file part room after : List ℕ} {answer : FileAnswer} {sizes : Sizes} {w : WriteAnswer} → AllBytes file → most_bytes ≤ length room
-    → ReadOf file answer sizes → answer ≡ Ok tt → BodiesOf file part → WriteOf (take sizes.count sizes.row) part room w after → Rewritten file room (Ok tt) after
+    → ReadOf file answer sizes → BodiesOf file part → WriteOf (take sizes.count sizes.row) part room w after → Rewritten file room answer after
 unfolding room_again
-read_written {file} {part} {room} {after} {answer} {sizes} {w} all enough r is b written =
-    let good : GoodFile file = (reader_accepts_good r).0 is in
-    record { judged = subst (Judged file) is r.judged; same = (good_read_written_again all good r b (omega (arith, good.at_most)) written).1 }
+read_written {file} {part} {room} {after} {answer} {sizes} {w} all enough r b written = record { judged = r.judged; same = go answer r (read_sizes r) }
+  where
+    go : (q : FileAnswer) → ReadOf file q sizes → take sizes.count sizes.row ≡ yielded_sizes q file → after ≡ room_again q file room
+    go (Ok done) read e = let good : GoodFile file = (reader_accepts_good read).0 refl in (good_read_written_again all good read b (omega (arith, good.at_most)) written).1
+    go (Err fault) read e = nothing_written e written
 
 pub read_refused : {file room : List ℕ} {answer : FileAnswer} {sizes : Sizes} {fault : FileFault} → ReadOf file answer sizes → answer ≡ Err fault → Rewritten file room (Err fault) room
 unfolding room_again

@@ -4,6 +4,9 @@
 // finds it at its lowest place; those from 3 to 6 are looked for only where one walk (sound) does not
 // show that there is none. The stages come in the order of the numbers: what a later one goes by, an
 // earlier one has shown.
+//
+// Kept: table, class and work stay three parameters, as C lends them. `SizeAndRoom` asks of their lengths in
+// a clause, since the rows change between the steps that ask it, and a struct would be built anew for each.
 #![tactic(auto)]
 
 mod faults;

@@ -11,6 +11,9 @@
 // to one on 16 bits, and labels that agree in their low bits are spread too. A chain has at most
 // 65,536 / 3n + 1 labels before one repeats, and no table takes more than about 11,000 comparisons of
 // labels.
+//
+// Kept: the chains are numbers in a row that is lent, since there is no heap. That they are chains up to
+// an address is asked in a clause and is no invariant of a struct, since the address goes up with each step.
 ghost use Rattle.std.specs.Prelude.{◌≡◌, ◌+◌, ◌*◌, ◌<◌, ◌≤◌, length};
 ghost use Rattle.words.specs.Limits.{most_words};
 ghost use Rattle.words.specs.declared.kind.Kind.{Kind};
@@ -81,7 +84,7 @@ pub(crate) fn repeats_variable(table: &[u32], work: &mut [u16], at: usize) -> bo
     requires { Chained table.now work.old at × (at < length table.now) × (kind_at table.now at ≡ Kind.Variable) }
     ensures { NameJudged table.now work.old work.new at result }
 {
-    if label_at(table, at).0 == UNNAMED {
+    if label_at(table, at) == UNNAMED {
         return false;
     }
     if stood_earlier(table, work, at) {

@@ -1,5 +1,5 @@
 -- Edges passed over: the marks of a search are enough to do it (`sure`), what the tests of a vertex say (`open_read`,
--- `no_function_no_edges`), no edges (`over_none`), edges passed over twice in a row (`over_join`), and what is found behind them
+-- `no_function_no_edges`), no edges (`over_none`), edges passed over twice in a row (`over_join`) and one more (`over_next`), and what is found behind them
 -- (`passed`). Assumes nothing.
 use mathlib.Core.Path.{◌≡◌, sym, ap, ◌∙◌, subst}
 use mathlib.Core.Bool.{Bool, true, false, not}
@@ -48,6 +48,15 @@ over_join {D} {x} {i} {j} {k} p q =
     go : (z : ℕ) → i ≤ z → z < k → Dec (z < j) → Safe D (D.next x z)
     go z h l (yes m) = p.ends z h m
     go z h l (no m) = q.ends z (omega arith) l
+
+-- one edge more, by what was read of it: the vertex y to which edge j leads, which is not open
+module _ {t row w : List ℕ} {x i j y : ℕ} {answer : Bool} (ready : Searchable t row) (known : Sure (digraph_of t row) w) (over : Over (digraph_of t row) x i j)
+    (more : j < degree t x) (leads : y ≡ (digraph_of t row).next x j) (told : Open (degree t y) (mark w y) answer) where
+  pub over_next : answer ≡ false → Over (digraph_of t row) x i (j + 1)
+  over_next e =
+      let safe : Safe (digraph_of t row) ((digraph_of t row).next x j) =
+      subst (Safe (digraph_of t row)) leads (not_open_safe known y (omega (arith, ready.name_inside x j more)) (subst (Open (degree t y) (mark w y)) e told)) in
+      over_join over (record { from = omega arith; within = omega arith; ends = λ k h l. subst (λ (z : ℕ). Safe (digraph_of t row) ((digraph_of t row).next x z)) (let same : j ≡ k = omega arith in same) safe })
 
 -- whether the vertex to which an edge leads is open, from what was read of it
 pub open_there :

@@ -5,6 +5,9 @@
 // is no function has no edges: it is neither marked nor put on the path. A vertex is put on the path
 // once at most, and an edge is passed over or followed once at most, so the time is linear in the number
 // of words.
+//
+// Kept: marks and path are numbers in a row that is lent, since there is no heap; and table and class row
+// stay two slices, for the reason at the head of crate table.
 #![tactic(auto)]
 
 mod path;

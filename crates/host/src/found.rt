@@ -10,6 +10,8 @@ use crate::job;
 use jobfile::FoundJob;
 use words::limits::MOST_WORDS;
 
+// Kept: arrays of three lengths and no `Vec`, since there is no heap.
+//
 // Words of a small and of a middle table, and the entries of a work row for them and for the largest.
 const SMALL: usize = 64;
 

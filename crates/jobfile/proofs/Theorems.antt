@@ -9,12 +9,14 @@
 --     job_body                   job k of a file is what its own body holds
 --     cut_not_good               the front of a good file is not good
 --     read_sizes, read_count, read_length    which sizes count, that they are at most 128, and how long their row is
+--     find_only                  a look for a job tells one thing of a file and a number
 --
--- Two results that a public contract allows are equal: `read_only` and `bodies_only` (ReaderLaws.antt), `write_only`
--- (WriteAnswers.antt). Assumes nothing.
+-- Two results that a public contract allows are equal: `judged_only`, `read_only` and `bodies_only` (ReaderLaws.antt), `write_only`
+-- (WriteAnswers.antt); of a look for a job, `find_only`. Assumes nothing.
 use mathlib.Core.Path.{◌≡◌, refl, sym, ap, ap₂, ◌∙◌, subst}
+use mathlib.Core.Logic.{inl, inr}
 use mathlib.Core.List.{List, ◌++◌}
-use Rattle.std.specs.Prelude.{Ok, Err}
+use Rattle.std.specs.Prelude.{Result, Ok, Err}
 use Prim.Native.Nat.{ℕ, zero, suc, ◌+◌, ◌-◌, ◌*◌, ◌≤◌, ◌<◌}
 use native.Mathlib.Omega.{arith}
 use lib.ListN.{length, take, drop, get_or, replicate, length-replicate, length-append, get_or-append}
@@ -24,12 +26,16 @@ use Rattle.words.specs.Limits.{most_sizes}
 use Rattle.graphs.specs.Partition.{pairs_of}
 use Rattle.jobfile.specs.Numbers.{row_in}
 use Rattle.jobfile.specs.File.{body_size, contents_end, count_in, words_in, pairs_in, body_start, body_in, sizes_in, bodies_in, GoodFile, file_of}
-use Rattle.jobfile.specs.Jobs.{FileJob, sizes_of, bodies_of, file_of_jobs, Holdable, job_in, jobs_from, jobs_in}
-use Rattle.jobfile.specs.Reader.{FileAnswer, Judged, yielded_sizes, yielded_bodies, in_row, Holds, ReadOf, BodiesOf}
+use Rattle.jobfile.specs.Found.{FoundBy}
+use Rattle.jobfile.specs.Jobs.{FileJob, sizes_of, bodies_of, file_of_jobs, Holdable, job_in, jobs_from, jobs_in, entry_of, words_of, JobThere}
+use Rattle.jobfile.specs.Reader.{FileAnswer, number_of, Judged, yielded_sizes, yielded_bodies, in_row, Holds, ReadOf, BodiesOf}
 use Rattle.jobfile.specs.Writer.{WriteAnswer, WriteOf, room_written}
+use Rattle.jobfile.specs.declared.found.NoJob.{NoJob}
+use Rattle.jobfile.specs.declared.found.NoJob.TheVariants.{File, Number}
+use Rattle.jobfile.specs.declared.job.FoundJob.{FoundJob}
 use Rattle.jobfile.specs.declared.sizes.Sizes.{Sizes}
 use Rattle.jobfile.proofs.FileLaws.{length-sizes_from, entry_in_sizes}
-use Rattle.jobfile.proofs.ReaderLaws.{judged_only, good_judged, judged_good}
+use Rattle.jobfile.proofs.ReaderLaws.{fault_refuses, judged_only, good_judged, judged_good}
 use Rattle.jobfile.proofs.WriteAnswers.{written_writable, writable_written}
 use Rattle.jobfile.proofs.Written.{Writable, written_good, written_sizes, written_bodies, good_again, good_writable}
 use Rattle.jobfile.proofs.JobLaws.{length-sizes_of, jobs_sum, jobs_back, row_in_front, drop-take, job_there}
@@ -178,3 +184,47 @@ read_length {bytes} {answer} r =
       length-append xs (replicate (most_sizes - length xs) 0),
       length-replicate {A = ℕ} (most_sizes - length xs) 0,
     )
+
+-- ---- a look for a job
+
+-- Two results tell one thing: one job of one file, or one refusal. Where the file's bytes lie is not asked.
+abbrev pub SameFound : Result FoundJob NoJob → Result FoundJob NoJob → Type 0
+SameFound (Ok a) (Ok b) = (a.file.now ≡ b.file.now) × (a.number ≡ b.number) × (a.words ≡ b.words) × (a.pairs ≡ b.pairs)
+SameFound (Err why) (Err other) = why ≡ other
+SameFound (Ok a) (Err why) = ⊥
+SameFound (Err why) (Ok a) = ⊥
+
+-- what refuses a file, as what refuses a look
+as_refusal : FileAnswer → NoJob
+as_refusal (Ok good) = Number
+as_refusal (Err fault) = File fault
+
+module _ (bytes : List ℕ) (number : ℕ) where
+  there_for : (job : FoundJob) → FoundBy bytes number (Ok job) → JobThere bytes number
+  there_for job (file, asked) = subst (λ (j : ℕ). JobThere bytes j) asked (subst (λ (l : List ℕ). JobThere l job.number) file job.is_there.there)
+
+  never_refused : JobThere bytes number → (why : NoJob) → FoundBy bytes number (Err why) → ⊥
+  never_refused there (File fault) judged = fault_refuses fault (sym (ap number_of (judged_only (Ok tt) (Err fault) (good_judged there.good) judged)))
+  never_refused there Number (good, inl z) = omega (arith, z, there.some_job)
+  never_refused there Number (good, inr over) = omega (arith, over, there.inside)
+
+  one_refusal : (why other : NoJob) → FoundBy bytes number (Err why) → FoundBy bytes number (Err other) → why ≡ other
+  unfolding as_refusal
+  one_refusal (File fault) (File other) x y = ap as_refusal (judged_only (Err fault) (Err other) x y)
+  one_refusal (File fault) Number x y = absurd (fault_refuses fault (ap number_of (judged_only (Err fault) (Ok tt) x (good_judged y.0))))
+  one_refusal Number (File fault) x y = absurd (fault_refuses fault (ap number_of (judged_only (Err fault) (Ok tt) y (good_judged x.0))))
+  one_refusal Number Number x y = refl
+
+  -- Two results that the contract of find allows tell one thing.
+  pub find_only : (r s : Result FoundJob NoJob) → FoundBy bytes number r → FoundBy bytes number s → SameFound r s
+  find_only (Ok a) (Ok b) x y =
+      let file : a.file.now ≡ b.file.now = x.0 ∙ sym y.0 in
+      let asked : a.number ≡ b.number = x.1 ∙ sym y.1 in (
+        file,
+        asked,
+        a.is_there.words ∙ ap₂ words_of file asked ∙ sym b.is_there.words,
+        a.is_there.pairs ∙ ap₂ (λ (l : List ℕ) (j : ℕ). pairs_in l (entry_of j)) file asked ∙ sym b.is_there.pairs,
+      )
+  find_only (Ok a) (Err why) x y = never_refused (there_for a x) why y
+  find_only (Err why) (Ok b) x y = never_refused (there_for b y) why x
+  find_only (Err why) (Err other) x y = one_refusal why other x y

@@ -1,18 +1,34 @@
--- What the reader yields of a good file: the row of sizes (`yield_sizes`, and `yield_no_sizes` of any other file), and the bodies
+-- What is told of a refusal (`NotGood`, `by_refusal`). What the reader yields of a good file: the row of sizes (`yield_sizes`, and `yield_no_sizes` of any other file), and the bodies
 -- (`yield_bodies`). Assumes nothing.
-use mathlib.Core.Path.{◌≡◌, sym, ap, ◌∙◌}
+use mathlib.Core.Path.{◌≡◌, refl, sym, ap, ◌∙◌}
 use mathlib.Core.List.{List, [], ◌++◌}
-use Rattle.std.specs.Prelude.{Ok}
+use Rattle.std.specs.Prelude.{Ok, Err}
 use Prim.Native.Nat.{ℕ, ◌+◌, ◌-◌, ◌*◌, ◌≤◌}
 use native.Mathlib.Omega.{arith}
 use lib.ListN.{length, take, drop, replicate, length-replicate, replicate-append-replicate}
 use lib.Seq.{drop_at}
 use Rattle.words.specs.Limits.{most_jobs, most_sizes}
 use Rattle.jobfile.specs.File.{contents_end, count_in, sizes_in}
-use Rattle.jobfile.specs.Reader.{Judged, in_row, Holds, BodiesOf}
+use Rattle.jobfile.specs.declared.answers.EntryNumber.{EntryNumber}
+use Rattle.jobfile.specs.declared.answers.FileFault.TheVariants.{File, Contents, Body}
+use Rattle.jobfile.specs.Reader.{FileAnswer, Judged, in_row, Holds, BodiesOf}
 use Rattle.jobfile.specs.declared.sizes.Sizes.{Sizes}
 use Rattle.jobfile.proofs.NumberLaws.{to_the_end}
 use Rattle.jobfile.proofs.FileLaws.{length-sizes_from}
+
+-- ---- what is told of a refusal
+
+-- what is told where the file is not good
+abbrev pub NotGood : FileAnswer → Type 0
+NotGood r = r ≡ Ok tt → ⊥
+
+-- what all refusals yield is then yielded
+pub by_refusal : {A : Type 0} {x : A} (yielded : FileAnswer → A) (r : FileAnswer) → NotGood r
+    → yielded (Err File) ≡ x → yielded (Err Contents) ≡ x → ((entry : EntryNumber) → yielded (Err (Body entry)) ≡ x) → yielded r ≡ x
+by_refusal yielded (Ok good) told f c b = absurd (told refl)
+by_refusal yielded (Err File) told f c b = f
+by_refusal yielded (Err Contents) told f c b = c
+by_refusal yielded (Err (Body entry)) told f c b = b entry
 
 -- ---- the row of sizes
 

@@ -45,6 +45,19 @@ fn put_contents(sizes: &[u16], file: &mut [u8])
     }
 }
 
+// Copies all of from into a row of its length.
+//
+// Kept: a loop and not the library's `copy_from_slice`, by which the static library would ask memmove of the C library. A host
+// has to have memset alone (docs/HOST.md).
+fn copy(from: &[u8], into: &mut [u8])
+    requires { length from.now ≡ length into.old }
+    ensures { into.new ≡ from.now }
+{
+    for (i, byte) in from.iter().enumerate() {
+        into[i] = *byte;
+    }
+}
+
 // Writes the file of these sizes and bodies into room, or answers by the first number that applies of 13, 14, 12 and 2. A
 // refusal writes nothing. Bytes after the file stay.
 pub fn write(sizes: &[u16], bodies: &[u8], room: &mut [u8]) -> Result<(), WriteFault>
@@ -65,6 +78,6 @@ pub fn write(sizes: &[u16], bodies: &[u8], room: &mut [u8]) -> Result<(), WriteF
         return Err(WriteFault::Room);
     }
     put_contents(sizes, room);
-    room[start..end].copy_from_slice(bodies);
+    copy(bodies, &mut room[start..end]);
     Ok(())
 }

@@ -15,6 +15,7 @@ use Rattle.table.specs.Faults.{sent, Fault, number, match_order}
 use Rattle.matcher.specs.Match.{Matched, number_of, place_of, AcceptedWith, MatchOf}
 use Rattle.matcher.proofs.Verdicts.{ready}
 use Rattle.matcher.proofs.Demands.{accepted_passes}
+use Rattle.matcher.specs.declared.answer.Counts.{Counts}
 use Rattle.matcher.proofs.OneMatch.{refusal_refuses}
 use Rattle.jobfile.specs.File.{words_in, pairs_in, body_start, body_in}
 use Rattle.jobfile.specs.Jobs.{FileJob, entries_of, entry_of, words_of, list_of, JobThere, JobTaken}
@@ -87,8 +88,9 @@ module _ (k : ℕ) (job : FileJob) {class work class_after work_after : List ℕ
       subst (λ (w : ℕ). Answered number (Fault (sent job.words (entries_of job.pairs) most_words w)) match_order (number_of answer) (place_of answer)) works
       (subst (λ (c : ℕ). Answered number (Fault (sent job.words (entries_of job.pairs) c (length work))) match_order (number_of answer) (place_of answer)) classes m.answered)
 
-  job_listed : {row after : List ℕ} {r : ℕ} (answer : Matched) → MatchOf job.words (entries_of job.pairs) class work answer class_after work_after → LineIn (answer_lines k answer job.words class_after) row r after → TextIn (JobListed k job) row r after
-  job_listed {row} {after} {r} (Ok counts) m told =
+  listed_accepted : {row after : List ℕ} {r : ℕ} {counts : Counts} → MatchOf job.words (entries_of job.pairs) class work (Ok counts) class_after work_after
+      → LineIn (answer_lines k (Ok counts) job.words class_after) row r after → TextIn (JobListed k job) row r after
+  listed_accepted {row} {after} {r} {counts} m told =
       let b : AcceptedWith job.words (entries_of job.pairs) class class_after counts.joins = m.bound refl in
       let table : ClassTable (graph_of job.words) job.pairs b.table = subst (λ ps. ClassTable (graph_of job.words) ps b.table) (pairs_entries job.pairs) b.class_table in
       let line : answer_line k (Ok counts) ≡ job_line k 0 0 (joins (graph_of job.words) b.table) = ap (job_line k 0 0) b.joins_counted in
@@ -99,6 +101,9 @@ module _ (k : ℕ) (job : FileJob) {class work class_after work_after : List ℕ
         is = job_accepted (answered m) table;
         there = subst (λ (text : List ℕ). LineIn text row r after) (ap₂ (λ (f g : List ℕ). f ++ g) line variables) told;
       }
+
+  job_listed : {row after : List ℕ} {r : ℕ} (answer : Matched) → MatchOf job.words (entries_of job.pairs) class work answer class_after work_after → LineIn (answer_lines k answer job.words class_after) row r after → TextIn (JobListed k job) row r after
+  job_listed (Ok counts) m told = listed_accepted m told
   job_listed (Err refusal) m told = record { text = answer_line k (Err refusal); is = job_refused (answered m) (refusal_refuses refusal); there = told }
 
 pub job_told : {file table list class work row t l class_after work_after after : List ℕ} {job r : ℕ} (answer : Matched) → RowsForListing file job table list class work row → JobTaken file job list t l

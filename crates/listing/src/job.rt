@@ -66,7 +66,7 @@ fn match_job(
 }
 
 // The lines of a job. The rows are new for each job, so nothing of the last one is there, and have room for all words and all
-// addresses that a file can hold.
+// addresses that a file can hold. Kept: arrays and no `Vec`, since there is no heap.
 pub(crate) fn put_job_lines(job: FoundJob<'_>, row: &mut [u8]) -> usize
     requires { job_room ≤ length row.old }
     ensures { TextIn (JobListed job.entry.number (job_at job.entry.file.now job.entry.number)) row.old result row.new × (result ≤ job_room) }

@@ -4,6 +4,9 @@
 // Pairs are joined up to the first clash, and what is joined is searched for a cycle once. If there is
 // one, the first pair that closes one is found by halving: more pairs never undo a cycle, no pairs have
 // none, and each half is joined afresh. That takes at most nine searches for 256 pairs.
+//
+// Kept: table, list, class and work stay four parameters, as C lends them. `Standing` speaks of all four,
+// before a step and after it, so as a struct's invariant it would take the same words.
 ghost use Rattle.std.specs.Prelude.{◌≤◌, length, take};
 ghost use Rattle.graphs.specs.Partition.{pairs_of, Cycle};
 ghost use Rattle.table.specs.Table.{graph_of};

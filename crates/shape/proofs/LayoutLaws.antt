@@ -3,6 +3,7 @@
 --   break_stands   where the rest breaks, after a word that can
 --   break_ends     at the end of the table
 --   scan-..        the same three for a scan, from what it read
+--   break_only     two scans of one table give one place
 --   one_less       how many arguments are still to come after one more
 -- Assumes nothing.
 use mathlib.Core.Path.{◌≡◌, refl, sym, ap, ◌∙◌}
@@ -81,3 +82,6 @@ module _ {t : List ℕ} {a : ℕ} {wanted : Wanted} (scanned : Scanned t wanted 
 pub one_less : (k : ℕ) → k - 1 ≡ less k
 one_less zero = refl
 one_less (suc k) = omega arith
+
+pub break_only : {r s e : Option ℕ} → r ≡ e → s ≡ e → r ≡ s
+break_only p q = p ∙ sym q

@@ -2,6 +2,8 @@
 // check on lent buffers, and the writer and the reader of job files. The work is done by the crates before it, so that this one
 // is proved in seconds. Crate station_c exports them to C under the same names, with the same clauses.
 //
+// Kept: an entry returns a number, whose meaning the C header says.
+//
 // No entry asks anything of its caller. A definition (`HostOf` and `SizesOf` of crate host, and those of specs/) says for each
 // what it returns and what it leaves in the rows that it is lent, and a theorem of proofs/Theorems.antt that it says so of one
 // result only.

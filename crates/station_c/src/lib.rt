@@ -1,5 +1,8 @@
 // The static library that a host program links: the five entries of crate station, exported to C under their own names.
 //
+// Kept: a function here for each function there, since what is exported to C is `extern "C"`, and Rattle's own crates call the
+// other.
+//
 // Each is its entry's call, with its entry's clause: what an entry returns and leaves is said there and in the definitions that
 // the clauses name.
 #![tactic(auto)]

@@ -1,6 +1,7 @@
 -- What a row of items that does not break says of its blocks.
 --
--- In order: one more word of the row (`break_stands`); `Block`, what stands after a function; `whole-blocks`.
+-- In order: one more word of the row (`break_stands`, `break_stops`); what stands after a function (`Arguments`, `CountAndArguments`); and
+-- that the blocks of a row which does not break are whole (`whole_begins`).
 -- Assumes nothing.
 use mathlib.Core.Path.{◌≡◌, refl, sym, ap, ◌∙◌, subst}
 use mathlib.Core.Bool.{Bool, true, false, cond, true≢false}

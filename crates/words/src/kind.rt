@@ -12,6 +12,9 @@ pub enum Kind {
     Count,
     // No word: the tag is not in the table of tags, or a high bit is set. It is a kind because any
     // 32-bit number can stand in a table that is not checked yet.
+    //
+    // Kept: an Option of a kind would put `Some` around each of the five where kinds are asked for, and
+    // `kind_of`, on which the definitions of a table rest, has it as a kind.
     NoWord,
 }
 

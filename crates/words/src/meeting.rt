@@ -27,6 +27,9 @@ pub enum Outcome {
 }
 
 // The nine meetings of kinds: variable, constant, function against the same three.
+//
+// Kept: a table of actions, and the kinds as its places: document 01 names the form, a constant array of
+// arrays.
 const MEETINGS: [[Action; 3]; 3] = [
     [Action::Join, Action::Join, Action::Join],
     [Action::Join, Action::JoinIfLabelsAgree, Action::Clash],

@@ -11,7 +11,7 @@ pub struct Address(pub u16);
 pub struct Label(pub u16);
 
 // The label of every variable that has no name.
-pub const UNNAMED: u16 = 0;
+pub const UNNAMED: Label = Label(0);
 
 // A place in the list of pairs, from 1.
 #[derive(Clone, Copy, PartialEq, Eq)]

@@ -23,6 +23,9 @@ pub fn content(word: u32) -> u16
 }
 
 // The content as a label, which it is in a variable, a constant and a function word.
+//
+// Kept: this and `address` are two functions, since the kind of the word says which of the two its
+// content is; one function over both types would let it be either.
 pub fn label(word: u32) -> Label
     ensures { result.0 ≡ content_of word }
 {
@@ -36,7 +39,8 @@ pub fn address(word: u32) -> Address
     Address(content(word))
 }
 
-// The kind of a word. One division tests tag and high bits together: a high bit that is set makes
+// The kind of a word. Kept: not as `From`, since it stands beside the other parts of a word, which are
+// numbers and cannot be read by type. One division tests tag and high bits together: a high bit that is set makes
 // the quotient 32 or more, which is no tag.
 pub fn kind(word: u32) -> Kind
     ensures { result ≡ kind_of word }

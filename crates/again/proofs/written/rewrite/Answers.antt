@@ -12,4 +12,4 @@ returns-in_err-read c = let refused : c.from_residual.result ≡ Err c.in_err-re
     rw refused (read_refused c.read-read.ensures c.in_err-read.was)
 
 pub returns : goal.returns
-returns c = read_written (λ i. omega (arith, c.type_inv.file i)) c.requires c.read-read.ensures c.in_ok-read.was c.bodies.ensures (rw c.as_slice.ensures at c.write.ensures)
+returns c = rw c.in_ok-read.was at (read_written (λ i. omega (arith, c.type_inv.file i)) c.requires c.read-read.ensures c.bodies.ensures (rw c.as_slice.ensures at c.write.ensures))

@@ -27,4 +27,4 @@ returns-then-room-end c = write_room c.args.sizes.now c.args.bodies.now c.args.r
 
 pub returns : goal.returns
 returns c = write_all c.args.sizes.now c.args.bodies.now c.args.room.now (omega arith) (c.if-bodies-bodies_size.false ∙ c.bodies_size.ensures) (omega arith) (omega arith) c.put_contents.ensures
-    (copied_within _ _ _ _ _ (omega arith) c.copy_from_slice.ensures.after)
+    (copied_within _ _ _ _ _ (omega arith) c.copy.ensures)
