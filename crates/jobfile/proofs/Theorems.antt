@@ -159,20 +159,6 @@ read_count {bytes} {answer} {sizes} r = go answer r.judged r.yielded.counted
     go : (q : FileAnswer) → Judged bytes q → sizes.count ≡ length (yielded_sizes q bytes) → sizes.count ≤ most_sizes
     go (Ok good) judged e = omega (arith, length-sizes_from (count_in bytes) 0 bytes, (judged_good judged).few_jobs)
     go (Err fault) judged e = omega arith
-<<<<<<< HEAD
-
-pub read_length : {bytes : List ℕ} {answer : FileAnswer} {sizes : Sizes} → ReadOf bytes answer sizes → length sizes.row ≡ most_sizes
-unfolding in_row
-read_length {bytes} {answer} r =
-    let xs : List ℕ = yielded_sizes answer bytes in
-    omega (
-      arith,
-      read_count r,
-      r.yielded.counted,
-      ap length r.yielded.numbers,
-      length-append xs (replicate (most_sizes - length xs) 0),
-      length-replicate {A = ℕ} (most_sizes - length xs) 0,
-    )
 
 -- ---- a look for a job
 
@@ -217,5 +203,3 @@ module _ (bytes : List ℕ) (number : ℕ) where
   find_only (Ok a) (Err why) x y = never_refused (there_for a x) why y
   find_only (Err why) (Ok b) x y = never_refused (there_for b y) why x
   find_only (Err why) (Err other) x y = one_refusal why other x y
-=======
->>>>>>> 33e92d83481887f2088335bf8577328f10bbbc68
