@@ -1,5 +1,5 @@
 -- The lowest number with a property, and the first that passes a test: there is one (`lowest_only`, `first_only`, `found_only`), the one
--- is the other (`first_lowest`, `found_lowest`), and where there is none nothing passes (`first_none`, `found_none`, `none_at_all`).
+-- is the other (`found_lowest`), and where there is none nothing passes (`found_none`, `none_at_all`).
 -- Assumes nothing.
 use mathlib.Core.Path.{◌≡◌, refl, sym, ap, ◌∙◌}
 use mathlib.Core.Bool.{Bool, true, true≢false}
@@ -34,12 +34,6 @@ module _ {test : ℕ → Bool} {n : ℕ} where
   pub first_only : {j k : ℕ} → First test n j → First test n k → j ≡ k
   first_only f g =
       neither_below (λ h. before_fails g h (f.passes (omega (arith, g.within)))) (λ h. before_fails f h (g.passes (omega (arith, f.within))))
-
-  pub first_lowest : {r : ℕ} → First test n r → r < n → Lowest (λ b. (b < n) × (test b ≡ true)) r
-  first_lowest f h = record { has = (h, f.passes h); none_below = λ j l p. before_fails f l p.1 }
-
-  pub first_none : {r : ℕ} → First test n r → n ≤ r → (b : ℕ) → (b < n) × (test b ≡ true) → ⊥
-  first_none f h b (l, t) = before_fails f (omega arith) t
 
   pub found_lowest : {r : ℕ} → Found test n (Some r) → Lowest (λ b. (b < n) × (test b ≡ true)) r
   found_lowest (inside, passes, before) =

@@ -1,6 +1,6 @@
 -- The walk along the items of a sound table, as far as the table goes; WalkLaws has the work row too. In order:
 --   good_first     word 0 is the number 0
---   no_count, some_count, sound_count_lem   the test of a count
+--   sound_count_lem   the test of a count
 --   walked_none, walked_on   no step, and one walk after another
 --   variable_good, constant_good, pointer_good   a word whose kind was read
 --   variable_item, constant_item, function_word, count_word, argument_word   one word further
@@ -53,13 +53,6 @@ good_later t (suc a) k h e w p n = record {
 
 -- the test of a count, and what it shows
 module _ (w : ℕ) where
-  pub no_count : (kind_of w ≡ Count → ⊥) → false ≡ sound_count w
-  unfolding sound_count
-  no_count other = sym (ap (λ (b : Bool). b && not (bad_kind Count (content_of w))) (other_kind (kind_of w) Count other))
-
-  pub some_count : {content : ℕ} {bad : Bool} → kind_of w ≡ Count → content ≡ content_of w → bad ≡ bad_kind Count content → not bad ≡ sound_count w
-  unfolding sound_count
-  some_count e n b = ap not (b ∙ ap (bad_kind Count) n) ∙ sym (ap (λ (q : Bool). q && not (bad_kind Count (content_of w))) ((same_kind_exactly (kind_of w) Count).1 e))
 
   pub sound_count_lem : sound_count w ≡ true → (kind_of w ≡ Count) × (bad_kind Count (content_of w) ≡ false)
   unfolding sound_count

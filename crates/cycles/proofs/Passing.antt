@@ -1,5 +1,5 @@
--- Edges passed over: the marks of a search are enough to do it (`sure`), what the tests of a vertex say (`open_read`,
--- `no_function_no_edges`), no edges (`over_none`), edges passed over twice in a row (`over_join`) and one more (`over_next`), and what is found behind them
+-- Edges passed over: the marks of a search are enough to do it (`sure`), what the tests of a vertex say
+-- (`no_function_no_edges`), no edges (`over_none`), edges passed over twice in a row (`over_join`) and one more (`over_next`), and what is found behind them
 -- (`passed`). Assumes nothing.
 use mathlib.Core.Path.{◌≡◌, sym, ap, ◌∙◌, subst}
 use mathlib.Core.Bool.{Bool, true, false, not}
@@ -21,14 +21,6 @@ use Rattle.cycles.proofs.Answers.{no_edges_safe}
 
 pub sure : {D : Digraph} {w : List ℕ} {depth : ℕ} → Search D w depth → Sure D w
 sure S = record { room = omega (arith, S.room); finished = finished_safe S }
-
--- the mark tells whether a vertex that can have edges is open
-pub open_read : (count : ℕ) {m r : ℕ} → r ≡ m → Open count m (not (eqb r finished_mark))
-open_read count {m} {r} read = go (ℕ_discrete r finished_mark)
-  where
-    go : Dec (r ≡ finished_mark) → Open count m (not (eqb r finished_mark))
-    go (yes e) = subst (λ (b : Bool). Open count m (not b)) (sym (eq-eqb r finished_mark e)) (inr (sym read ∙ e))
-    go (no e) = subst (λ (b : Bool). Open count m (not b)) (sym (ne_eqb r finished_mark e)) (λ f. e (read ∙ f))
 
 -- what is no function has no edges
 pub no_function_no_edges : (t : List ℕ) (x : ℕ) {function : Bool} → function ≡ same_kind (kind_at t x) Function → not function ≡ true → degree t x ≡ 0

@@ -2,8 +2,8 @@
 --
 -- In order:
 --     the bodies        EntriesWalked, walked_none, walked_more: what a walk along the entries knows
---                       bodies_wrong, bodies_past, bodies_follow, bodies_good: how it ends
---     the whole         judged_file, judged_contents, judged_bodies
+--                       bodies_wrong, bodies_past, bodies_follow: how it ends
+--     the whole         judged_file, judged_contents
 --     one answer        read_once, answered_once, fault_refuses, judged_only, read_only, bodies_only
 --     a good file       body_inside, good_judged, judged_good
 -- Assumes nothing.
@@ -101,12 +101,6 @@ module _ {bytes : List ℕ} {k start : ℕ} (walked : EntriesWalked bytes k star
   no_body h ends p (past_end {k = j} l over) = omega (arith, (walked.fine j (omega arith)).inside)
   no_body h ends p (bytes_follow over) = omega (arith, all_walked h)
 
-  pub bodies_good : count_in bytes ≤ k → length bytes ≤ start → BodiesJudged bytes (Ok tt)
-  bodies_good h ends = inr (no_row, (refl, refl))
-    where
-      no_row : (p : ℕ) → ReadFault bytes BODY p → ⊥
-      no_row p (body_fault lowest) = no_body h ends p lowest.has
-
 -- ---- the whole
 
 module _ {bytes : List ℕ} where
@@ -126,9 +120,6 @@ module _ {bytes : List ℕ} where
   pub judged_contents : 2 ≤ length bytes → length bytes ≤ most_bytes → (count_in bytes ≡ 0) ⊎ ((most_jobs < count_in bytes) ⊎ (length bytes < contents_end (count_in bytes))) → Judged bytes (Err Contents)
   unfolding file_number
   judged_contents least most why = inr (no_file least most, inl (refl, contents_fault why))
-
-  pub judged_bodies : {jobs : ℕ} (answer : FileAnswer) → Opened bytes jobs → BodiesJudged bytes answer → Judged bytes answer
-  judged_bodies answer o by = inr (no_file o.at_least o.at_most, inr (no_contents o.some_job o.few_jobs o.contents_inside, by))
 
 -- ---- one answer
 

@@ -1,5 +1,5 @@
--- What is told of a refusal (`NotGood`, `by_refusal`). What the reader yields of a good file: the row of sizes (`yield_sizes`, and `yield_no_sizes` of any other file), and the bodies
--- (`yield_bodies`). Assumes nothing.
+-- What is told of a refusal (`NotGood`, `by_refusal`), and the row of sizes that the reader yields of a good file (`yield_sizes`)
+-- and of any other (`yield_no_sizes`). Assumes nothing.
 use mathlib.Core.Path.{◌≡◌, refl, sym, ap, ◌∙◌}
 use mathlib.Core.List.{List, [], ◌++◌}
 use Rattle.std.specs.Prelude.{Ok, Err}
@@ -30,8 +30,6 @@ by_refusal yielded (Err File) told f c b = f
 by_refusal yielded (Err Contents) told f c b = c
 by_refusal yielded (Err (Body entry)) told f c b = b entry
 
--- ---- the row of sizes
-
 drop_zeros : (k n : ℕ) → k ≤ n → drop {A = ℕ} k (replicate n 0) ≡ replicate (n - k) 0
 drop_zeros k n h =
     let way : k + (n - k) ≡ n = omega arith in
@@ -56,10 +54,3 @@ yield_sizes bytes {sizes} few row count =
 pub yield_no_sizes : {sizes : Sizes} → sizes.row ≡ replicate most_sizes 0 → sizes.count ≡ 0 → Holds sizes []
 unfolding in_row
 yield_no_sizes row count = record { numbers = row; counted = count }
-
--- ---- the bodies
-
-pub yield_bodies : {bytes : List ℕ} (start : ℕ) → Judged bytes (Ok tt) → start ≡ contents_end (count_in bytes)
-    → BodiesOf bytes (take (length bytes - start) (drop start bytes))
-yield_bodies {bytes} start judged e =
-    record { answer = Ok tt; judged = judged; yielded = to_the_end start bytes ∙ ap (λ (i : ℕ). drop i bytes) e }

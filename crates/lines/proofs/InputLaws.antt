@@ -1,5 +1,5 @@
--- What is read into a row, read after read. In order: what was consumed (`consumes_none`, `consumes_more`); the row
--- (`Filled`, `filled_none`, `filled_more`). Assumes nothing.
+-- What is read into a row, read after read. In order: what was consumed (`consumes_more`); the row (`Filled`,
+-- `filled_more`). Assumes nothing.
 use mathlib.Core.Path.{◌≡◌, refl, sym, ap, ap₂, ◌∙◌}
 use mathlib.Core.List.{List, [], ◌++◌, append_assoc}
 use Rattle.std.specs.Prelude.{Option, Some, None}
@@ -11,10 +11,6 @@ use lib.ListN.{length, take, drop}
 use lib.Seq.{take_at, drop_at, take-add, take-append-le, length-take-le}
 
 -- ---- what was consumed
-
-consumes_none : (now : Option (List ℕ)) → Consumes now now []
-consumes_none None = tt
-consumes_none (Some bytes) = refl
 
 consumes_more : (before between now : Option (List ℕ)) (xs ys : List ℕ) → Consumes before between xs → Consumes between now ys → Consumes before now (xs ++ ys)
 consumes_more None between now xs ys first second = tt
@@ -29,9 +25,6 @@ pub record Filled (before now : Option (List ℕ)) (row₀ row : List ℕ) (size
   pub same_length : length row ≡ length row₀
   pub within : size ≤ length row
   pub given : Consumes before now (take size row)
-
-pub filled_none : (now : Option (List ℕ)) (row : List ℕ) → Filled now now row row 0
-filled_none now row = record { same_length = refl; within = omega arith; given = consumes_none now }
 
 -- a read puts what it gives straight after what was given before
 pub filled_more : {before : Option (List ℕ)} (between now : Option (List ℕ)) {row₀ row : List ℕ} (part : List ℕ) {size count : ℕ} → Filled before between row₀ row size

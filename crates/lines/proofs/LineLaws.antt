@@ -2,7 +2,7 @@
 --     one part after another      field-placed, line_word, line_first, line_more: what stores and copies leave
 --     a front lent on             line_counts
 --     read back                   job_line_read, variable_line_read, file_line_read: a line tells its numbers; decimal_tells
---     what was put                line_written, copied_front, line_lent, text_written
+--     what was put                line_written, line_lent, text_written
 --     one result                  line_only, text_only
 -- Assumes nothing.
 use mathlib.Core.Path.{◌≡◌, refl, sym, ap, ap₂, ◌∙◌, subst}
@@ -12,7 +12,7 @@ use native.Mathlib.Omega.{arith}
 use lib.ListN.{length, take, drop, get_or, set, length-append, take-append-drop}
 use lib.Seq.{drop-cons, take_at, set_at, append_snoc, length-take-le, drop-append-le}
 use Rattle.rows.specs.Placed.{placed}
-use Rattle.rows.proofs.Laws.{copied_front as front_copied, behind_stays}
+use Rattle.rows.proofs.Laws.{behind_stays}
 use Rattle.lines.specs.Decimal.{decimal, numbers_from, numbers_in}
 use Rattle.lines.specs.Lines.{SPACE, NEWLINE, field, job_line, variable_line, file_line, LineIn, TextIn, Counts}
 use Rattle.lines.proofs.Decimals.{numbers_end, decimal_read}
@@ -114,10 +114,6 @@ decimal_tells x y e =
 -- what was put into the row, and is counted, is the line ..
 pub line_written : {line row after : List ℕ} {r : ℕ} → LineIn line row r after → take r after ≡ line
 line_written {line} {row} {r = r} l = ap (take r) l.there ∙ take_at line (drop (length line) row) r (sym l.long)
-
--- .. also where it was copied to the front of another row ..
-pub copied_front : {line row₀ after₀ copied : List ℕ} (row : List ℕ) {r : ℕ} → LineIn line row₀ r after₀ → copied ≡ take r after₀ → LineIn line row r (copied ++ drop r row)
-copied_front {line} {copied = copied} row {r} l e = record { long = l.long; there = front_copied r line row copied l.long (e ∙ line_written l) }
 
 -- .. also where it was put into the front of another row, that was lent ..
 pub line_lent : {line front part : List ℕ} {n r : ℕ} (row : List ℕ) → LineIn line front r part → front ≡ take n row → n ≤ length row → r ≤ n → LineIn line row r (part ++ drop n row)

@@ -8,7 +8,6 @@ ghost use Rattle.listing.specs.Steps.Putting.{job_room, Tellable, answer_line, a
 use crate::variables;
 use answering::answer::Answer;
 use jobfile::FoundJob;
-use lines::LINE_ROOM;
 use matcher::answer;
 use matcher::answer::{Counts, Refusal};
 use words::limits::{MOST_BYTES, MOST_WORDS};
@@ -18,16 +17,13 @@ fn put_job(job: u16, answer: Result<Counts, Refusal>, row: &mut [u8]) -> usize
     requires { job_room ≤ length row.old }
     ensures { LineIn (answer_line job answer) row.old result row.new × (result ≤ line_room) }
 {
-    let mut line = [0u8; LINE_ROOM];
-    let size = lines::job_line(
+    lines::job_line(
         job,
         answer.number(),
         answer.place(),
         answer::joins(answer),
-        &mut line,
-    );
-    row[..size].copy_from_slice(&line[..size]);
-    size
+        row.first_chunk_mut().unwrap(),
+    )
 }
 
 // The same, and after an accepted job the lines of its variables.

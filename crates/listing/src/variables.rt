@@ -10,6 +10,7 @@ use words::numbers::{Address, Label};
 use words::word;
 
 // Puts a variable's line into the bytes from place `at` on, and returns the place after it.
+// The line is copied there: of a row that is lent from a place on, the goals give no name to the bytes behind the line.
 fn put_variable(x: Address, label: Label, name: Address, row: &mut [u8], at: usize) -> usize
     requires { at + line_room ≤ length row.old }
     ensures { PutAt (variable_line x.0 label.0 name.0) at row.old result row.new × (result ≤ at + line_room) }

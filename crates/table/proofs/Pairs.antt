@@ -26,13 +26,6 @@ length-pairs_of_over [] = omega arith
 length-pairs_of_over (l ∷ []) = omega arith
 length-pairs_of_over (l ∷ r ∷ rest) = omega (arith, length-pairs_of_over rest)
 
--- None is left over where the number of entries is even.
-pub length-pairs_of_even : (list : List ℕ) → odd list ≡ false → length list ≡ 2 * length (pairs_of list)
-unfolding pairs_of odd
-length-pairs_of_even [] e = omega arith
-length-pairs_of_even (l ∷ []) e = never (cc)
-length-pairs_of_even (l ∷ r ∷ rest) e = omega (arith, length-pairs_of_even rest e)
-
 -- ---- the sides
 
 pub pair_at-left : (list : List ℕ) (k : ℕ) → k < length (pairs_of list) → (pair_at (pairs_of list) k).left ≡ get_or list (2 * k) 0

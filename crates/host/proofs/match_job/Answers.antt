@@ -4,8 +4,5 @@ use mathlib.Core.Path.{refl}
 use Rattle.host.proofs.ChoiceLaws.{refused_early}
 use Rattle.host.proofs.match_job.Goals as goal
 
-pub match_found-requires : goal.match_found-requires
-match_found-requires c = (c.in-Ok.ensures.2, refl)
-
 pub returns-in-Err : goal.returns-in-Err
 returns-in-Err c = rw c.number.ensures (refused_early c.args.file.now c.args.job c.args.room.now c.in-Err.ensures)

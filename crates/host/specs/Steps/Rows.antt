@@ -4,13 +4,6 @@ use Rattle.words.specs.Limits.{most_words}
 use Rattle.jobfile.specs.File.{pairs_in}
 use Rattle.jobfile.specs.Jobs.{entry_of, words_of, RowsForJob}
 
--- Words of the tables that have small and middle rows.
-abbrev pub small_row : ℕ
-small_row = 64
-
-abbrev pub middle_row : ℕ
-middle_row = 512
-
 -- A list of over 256 pairs is cut off, with one pair too many.
 abbrev pub list_room : ℕ
 list_room = 514

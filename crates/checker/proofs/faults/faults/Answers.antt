@@ -3,9 +3,6 @@ use borrow.Author.Rules.{rules}
 use Rattle.checker.proofs.CheckLaws.{sound_stage, lent_later}
 use Rattle.checker.proofs.faults.faults.Goals as goal
 
-pub loops_alone-requires : goal.loops_alone-requires
-loops_alone-requires c = (search rules, (c.is_sound.ensures.shows c.if-is_sound.true).0)
-
 pub returns-then-is_sound : goal.returns-then-is_sound
 returns-then-is_sound c = sound_stage c.is_sound.ensures c.if-is_sound.true c.loops_alone.ensures
 

@@ -8,9 +8,6 @@ use Rattle.checker.specs.Steps.Stage.{ByRows}
 use Rattle.checker.proofs.CheckLaws.{accepted_readable, shape_refused, shape_passed, name_stage, names_passed, lent_later}
 use Rattle.checker.proofs.faults.through_all_rows.Goals as goal
 
-pub returns-in_err-row_by_row : goal.returns-in_err-row_by_row
-returns-in_err-row_by_row c = let p = err_from_is_err_and c.from_residual.result c.from_residual.ensures.1 in rw (p.1, p.2) (shape_refused (subst (ByRows shape_rows c.args.table.now) c.in_err-row_by_row.was c.row_by_row.ensures))
-
 pub first_repeated_name-requires : goal.first_repeated_name-requires
 first_repeated_name-requires c = (accepted_readable (subst (ByRows shape_rows c.args.table.now) c.in_ok-row_by_row.was c.row_by_row.ensures) c.requires, c.requires.work_enough)
 

@@ -13,9 +13,3 @@ loop-x-init c = built_none (counting-length 0 c.args.n) c.requires.0
 
 pub loop-x-preserved : goal.loop-x-preserved
 loop-x-preserved c = built_more _ c.loop-x.invariant c.loop-x-test.true (let e : c.loop-x.x ≡ get_or (counting 0 c.args.n) c.loop-x.x 0 = omega (arith, counting_at 0 c.args.n c.loop-x.x c.loop-x-test.true) in e)
-
-pub shape_of-class : goal.shape_of-class
-shape_of-class c = c.loop-x.invariant.same_length
-
-pub returns : goal.returns
-returns c = built_all c.loop-x.invariant c.loop-x-test.false

@@ -7,9 +7,6 @@ use Rattle.checker.specs.Steps.Names.{start_of}
 use Rattle.checker.proofs.NameLaws.{put_front}
 use Rattle.checker.proofs.name_fault.put_in_front.Goals as goal
 
-pub bounds-work-first-2 : goal.bounds-work-first-2
-bounds-work-first-2 c = simp length-set (omega arith)
-
 pub returns : goal.returns
 returns c = let start = c.start-first in
     put_front c.args.table.now c.args.work.now c.args.at start.result

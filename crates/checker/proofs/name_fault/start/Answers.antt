@@ -5,9 +5,6 @@ use Rattle.checker.proofs.ChainLaws.{spread_below, start_below}
 use Rattle.checker.specs.Steps.Names.{start_of}
 use Rattle.checker.proofs.name_fault.start.Goals as goal
 
-pub overflow_mul-result : goal.overflow_mul-result
-overflow_mul-result c = omega (arith, spread_below c.args.label.0 c.args.starts c.requires.0)
-
 pub returns : goal.returns
 unfolding start_of
 returns c = (refl, start_below _ c.requires.0)

@@ -4,9 +4,6 @@ use Rattle.table.specs.Faults.{bad_target}
 use Rattle.checker.proofs.WalkLaws.{variable_argument, constant_argument, pointer_argument, no_argument}
 use Rattle.checker.proofs.sound.is_sound_argument.Goals as goal
 
-pub repeats_variable-requires : goal.repeats_variable-requires
-repeats_variable-requires c = (c.requires.0, c.requires.2, sym c.kind.ensures ∙ c.in-Variable.is)
-
 pub returns-in-Variable : goal.returns-in-Variable
 returns-in-Variable c = variable_argument c.args.table.now c.args.at c.requires.1 c.repeats_variable.result (sym c.kind.ensures ∙ c.in-Variable.is) c.repeats_variable.ensures
 
@@ -15,6 +12,3 @@ returns-in-Constant c = constant_argument c.args.table.now c.args.at c.requires.
 
 pub returns-in-Pointer : goal.returns-in-Pointer
 returns-in-Pointer c = pointer_argument c.args.table.now c.args.at c.requires.1 c.requires.0 (sym c.kind.ensures ∙ c.in-Pointer.is) (c.is_bad_target.ensures ∙ ap (bad_target c.args.table.now) c.address.ensures)
-
-pub returns-in_default : goal.returns-in_default
-returns-in_default c = no_argument _ _ _

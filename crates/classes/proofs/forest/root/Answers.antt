@@ -17,6 +17,3 @@ loop-above-smaller c = climb_less c.loop-above.invariant (search rules) c.up-hig
 
 pub loop-above-preserved : goal.loop-above-preserved
 loop-above-preserved c = climb_more c.loop-above.invariant c.up-higher.ensures c.up-above-in-loop-above.ensures
-
-pub returns : goal.returns
-returns c = climb_end c.loop-above.invariant (search rules)

@@ -7,9 +7,6 @@ use Rattle.classes.specs.Steps.Lists.{one_clashes}
 use Rattle.classes.proofs.OneByOne.{begins, joins_on, clashes_here, all_met, side_nodes}
 use Rattle.classes.proofs.joining.join_each.Goals as goal
 
-pub loop-i-init : goal.loop-i-init
-loop-i-init c = begins c.requires.1
-
 pub join_pair-requires : goal.join_pair-requires
 join_pair-requires c = let n : _ = side_nodes c.args.table.now c.args.list.now c.requires.2 c.loop-i.i (omega (arith, length-pairs_of_over c.args.list.now)) in
     (c.requires.0, c.loop-i.invariant.state, n.0, n.1)

@@ -15,6 +15,3 @@ loop-x-preserved c =
       | then-is_node_word w ↦ apart_more c.args.table.now c.loop-x.invariant c.loop-x-test.true c.is_node_word.ensures (w.class-is ∙ sym (ap (λ (b : Bool). cond b c.loop-x.x 0) w.if-is_node_word.true)) refl
       | else-is_node_word w ↦ apart_more c.args.table.now c.loop-x.invariant c.loop-x-test.true c.is_node_word.ensures (w.class-is ∙ sym (ap (λ (b : Bool). cond b c.loop-x.x 0) w.if-is_node_word.false)) refl
     ]
-
-pub returns : goal.returns
-returns c = built_all c.loop-x.invariant c.loop-x-test.false

@@ -5,9 +5,6 @@ use Rattle.classes.proofs.Moves.{moved_none, err_settled}
 use Rattle.classes.proofs.Down.{settling_on, settling_less, settling_stops, settling_ends}
 use Rattle.classes.proofs.settle.settle.Goals as goal
 
-pub loop-waits-init : goal.loop-waits-init
-loop-waits-init c = record { moved = λ owed. moved_none c.requires.1 }
-
 pub settle_last-requires : goal.settle_last-requires
 settle_last-requires c = (c.requires.0, (c.loop-waits.invariant.moved []).state, c.loop-waits-test.true)
 

@@ -10,9 +10,3 @@ loop-i-init c = reporting_none c.requires
 
 pub loop-i-preserved : goal.loop-i-preserved
 loop-i-preserved c = reporting_more c.loop-i.invariant (omega arith) refl c.write16.ensures
-
-pub shape_of-room : goal.shape_of-room
-shape_of-room c = c.loop-i.invariant.same_length
-
-pub returns : goal.returns
-returns c = reporting_all c.loop-i.invariant c.loop-i-test.false

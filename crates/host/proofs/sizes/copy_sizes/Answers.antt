@@ -6,9 +6,6 @@ use Rattle.jobfile.proofs.ReaderLaws.{judged_good}
 use Rattle.host.proofs.SizesLaws.{copy_refused, copy_short, copied_all}
 use Rattle.host.proofs.sizes.copy_sizes.Goals as goal
 
-pub returns-in_err-judge : goal.returns-in_err-judge
-returns-in_err-judge c = let p = err_from_is_err_and c.from_residual.result c.from_residual.ensures.1 in rw (p.1, p.2) (copy_refused c.args.sizes.now c.in_err-judge.ensures)
-
 pub read-jobs-requires : goal.read-jobs-requires
 read-jobs-requires c = (judged_good c.in_ok-judge.ensures).at_least
 

@@ -6,9 +6,6 @@ use Rattle.listing.proofs.JobLaws.{job_fits, rows_for_job}
 use borrow.Author.Rules.{rules}
 use Rattle.listing.proofs.job.put_job_lines.Goals as goal
 
-pub overflow_mul-entries : goal.overflow_mul-entries
-overflow_mul-entries c = omega (arith, (job_fits c.args.job.is_there.there).1, c.args.job.is_there.pairs)
-
 pub slice_bounds-table-end : goal.slice_bounds-table-end
 slice_bounds-table-end c = omega (arith, (job_fits c.args.job.is_there.there).0, c.args.job.is_there.words)
 

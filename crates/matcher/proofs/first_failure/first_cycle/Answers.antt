@@ -15,11 +15,5 @@ overflow_add-middle c = omega (arith, c.loop-none.invariant.within, c.loop-none.
 pub has_cycle-requires : goal.has_cycle-requires
 has_cycle-requires c = (standing_after c.requires.0 c.loop-none.invariant.lent, fewer_clashless _ c.requires.1 (omega (arith, c.loop-none.invariant.within, c.loop-none.invariant.apart)))
 
-pub loop-none-preserved-then-has_cycle : goal.loop-none-preserved-then-has_cycle
-loop-none-preserved-then-has_cycle c = lower_half c.loop-none.invariant c.has_cycle.ensures (omega (arith, c.loop-none.invariant.apart)) (omega (arith, c.loop-none.invariant.apart)) c.if-has_cycle.true
-
 pub overflow_cast-result : goal.overflow_cast-result
 overflow_cast-result c = omega (arith, c.loop-none.invariant.within, c.requires.1.inside, length-pairs_of c.args.list.now, c.requires.0.ready.few)
-
-pub returns : goal.returns
-returns c = halved_end c.loop-none.invariant c.loop-none-test.false

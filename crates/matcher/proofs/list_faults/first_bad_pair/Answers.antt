@@ -13,9 +13,6 @@ use Rattle.shape.proofs.Search.{found_in_range}
 use Rattle.matcher.proofs.ListLaws.{half_entries}
 use Rattle.matcher.proofs.list_faults.first_bad_pair.Goals as goal
 
-pub find-requires-clause-callable : goal.find-requires-clause-callable
-find-requires-clause-callable c = serves_from_Range (λ x q k. search (rules, tests)) (λ x low high. omega arith)
-
 pub returns : goal.returns
 returns c =
     let bad : ℕ → Bool = λ k. bad_sides c.args.table.now (pair_at (pairs_of c.args.list.now) k) in
