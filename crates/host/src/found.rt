@@ -4,8 +4,9 @@ ghost use Rattle.std.specs.Prelude.{◌≡◌, ◌*◌, ◌≤◌, length};
 ghost use Rattle.words.specs.Limits.{most_words};
 ghost use Rattle.host.specs.Host.{HostOf};
 ghost use Rattle.host.specs.Steps.Choice.{Matchable};
-ghost use Rattle.host.specs.Steps.Rows.{list_room, RowsFit};
+ghost use Rattle.host.specs.Steps.Rows.{RowsFit};
 
+use crate::LIST_ROOM;
 use crate::job;
 use jobfile::FoundJob;
 use words::limits::MOST_WORDS;
@@ -51,10 +52,10 @@ fn match_in(
 // length of a row cannot be computed from a parameter.
 fn match_in_rows<const WORDS: usize, const WORK: usize>(
     job: FoundJob<'_>,
-    list: &mut [u16],
+    list: &mut [u16; LIST_ROOM],
     room: &mut [u8],
 ) -> u16
-    requires { Matchable job.words (length room.old) × (length list.old ≡ list_room) × (job.words ≤ WORDS) × (WORDS ≤ most_words) × (WORK ≡ 4 * WORDS) }
+    requires { Matchable job.words (length room.old) × (job.words ≤ WORDS) × (WORDS ≤ most_words) × (WORK ≡ 4 * WORDS) }
     ensures { HostOf job.entry.file.now job.entry.number room.old result room.new }
 {
     let mut table = [0u32; WORDS];
@@ -64,8 +65,8 @@ fn match_in_rows<const WORDS: usize, const WORK: usize>(
 }
 
 // Matches a job, by the size of its table.
-pub(crate) fn match_found(job: FoundJob<'_>, list: &mut [u16], room: &mut [u8]) -> u16
-    requires { Matchable job.words (length room.old) × (length list.old ≡ list_room) }
+pub(crate) fn match_found(job: FoundJob<'_>, list: &mut [u16; LIST_ROOM], room: &mut [u8]) -> u16
+    requires { Matchable job.words (length room.old) }
     ensures { HostOf job.entry.file.now job.entry.number room.old result room.new }
 {
     if job.words <= SMALL {

@@ -40,22 +40,21 @@ job_fits {file} {job} there =
     omega (arith, next_start file k {start = body_start file k} refl refl refl, body_inside there.good k (omega (arith, there.some_job, there.inside)), there.good.at_most) in
     (omega arith, omega arith)
 
-pub rows_for_job : {file : List ℕ} {job n p entries : ℕ} (table list : List ℕ) {class work row : List ℕ} → JobThere file job → n ≡ words_of file job → p ≡ pairs_in file (entry_of job) → entries ≡ 2 * p
-    → n ≤ length table → entries ≤ length list → length class ≡ most_words → length work ≡ 4 * most_words → job_room ≤ length row
-    → RowsForListing file job (take n table) (take entries list) class work row
-rows_for_job {n = n} {entries = entries} table list there words pairs all tables lists classes works room =
+pub rows_for_job : {file : List ℕ} {job n p entries : ℕ} (table list : List ℕ) {class work : List ℕ} → JobThere file job → n ≡ words_of file job → p ≡ pairs_in file (entry_of job) → entries ≡ 2 * p
+    → n ≤ length table → entries ≤ length list → length class ≡ most_words → length work ≡ 4 * most_words
+    → RowsForListing file job (take n table) (take entries list) class work
+rows_for_job {n = n} {entries = entries} table list there words pairs all tables lists classes works =
     let long : length (take entries list) ≡ entries = length-take-le entries list lists in
     record {
       copied = record { there = there; words = length-take-le n table tables ∙ words; pairs = omega (arith, long, all, pairs) };
       whole = omega (arith, long, all, pairs);
       classes = classes;
       works = works;
-      room = room;
     }
 
 -- ---- what was taken
 
-job_matched : {file table list class work row t l class_after work_after : List ℕ} {job : ℕ} {answer : Matched} → RowsForListing file job table list class work row → JobTaken file job list t l
+job_matched : {file table list class work t l class_after work_after : List ℕ} {job : ℕ} {answer : Matched} → RowsForListing file job table list class work → JobTaken file job list t l
     → MatchOf t l class work answer class_after work_after
     → (t ≡ (job_at file job).words) × MatchOf (job_at file job).words (entries_of (job_at file job).pairs) class work answer class_after work_after
 job_matched {file} {list = list} {class} {work} {t = t} {l} {class_after} {work_after} {job} {answer} rows taken m =
@@ -106,7 +105,7 @@ module _ (k : ℕ) (job : FileJob) {class work class_after work_after : List ℕ
   job_listed (Ok counts) m told = listed_accepted m told
   job_listed (Err refusal) m told = record { text = answer_line k (Err refusal); is = job_refused (answered m) (refusal_refuses refusal); there = told }
 
-pub job_told : {file table list class work row t l class_after work_after after : List ℕ} {job r : ℕ} (answer : Matched) → RowsForListing file job table list class work row → JobTaken file job list t l
+pub job_told : {file table list class work row t l class_after work_after after : List ℕ} {job r : ℕ} (answer : Matched) → RowsForListing file job table list class work → JobTaken file job list t l
     → MatchOf t l class work answer class_after work_after → LineIn (answer_lines job answer t class_after) row r after → TextIn (JobListed job (job_at file job)) row r after
 job_told {file} {row = row} {class_after = class_after} {after = after} {job} {r} answer rows taken m told =
     let matched = job_matched rows taken m in

@@ -1,10 +1,11 @@
 // The lines of one job: its table and list are taken out of the file and matched, and the answer is told.
-ghost use Rattle.std.specs.Prelude.{◌≤◌, length, OnOk};
+ghost use Rattle.std.specs.Prelude.{◌≤◌, OnOk};
 ghost use Rattle.lines.specs.Lines.{line_room, LineIn, TextIn};
 ghost use Rattle.listing.specs.Listing.{JobListed};
 ghost use Rattle.listing.specs.Parts.{job_at};
 ghost use Rattle.listing.specs.Steps.Putting.{job_room, Tellable, answer_line, answer_lines, RowsForListing};
 
+use crate::parts::JOB_ROOM;
 use crate::variables;
 use answering::answer::Answer;
 use jobfile::FoundJob;
@@ -13,8 +14,7 @@ use matcher::answer::{Counts, Refusal};
 use words::limits::{MOST_BYTES, MOST_WORDS};
 
 // Puts the line of a job over the front of row, and returns its length.
-fn put_job(job: u16, answer: Result<Counts, Refusal>, row: &mut [u8]) -> usize
-    requires { job_room ≤ length row.old }
+fn put_job(job: u16, answer: Result<Counts, Refusal>, row: &mut [u8; JOB_ROOM]) -> usize
     ensures { LineIn (answer_line job answer) row.old result row.new × (result ≤ line_room) }
 {
     lines::job_line(
@@ -32,9 +32,9 @@ fn put_answer(
     answer: Result<Counts, Refusal>,
     table: &[u32],
     class: &[u16],
-    row: &mut [u8],
+    row: &mut [u8; JOB_ROOM],
 ) -> usize
-    requires { OnOk answer (Tellable table.now class.now) × (job_room ≤ length row.old) }
+    requires { OnOk answer (Tellable table.now class.now) }
     ensures { LineIn (answer_lines job answer table.now class.now) row.old result row.new × (result ≤ job_room) }
 {
     let size = put_job(job, answer, row);
@@ -51,9 +51,9 @@ fn match_job(
     list: &mut [u16],
     class: &mut [u16],
     work: &mut [u16],
-    row: &mut [u8],
+    row: &mut [u8; JOB_ROOM],
 ) -> usize
-    requires { RowsForListing job.file.now job.number table.old list.old class.old work.old row.old }
+    requires { RowsForListing job.file.now job.number table.old list.old class.old work.old }
     ensures { TextIn (JobListed job.entry.number (job_at job.entry.file.now job.entry.number)) row.old result row.new × (result ≤ job_room) }
 {
     jobfile::take_job(job, table, list);
@@ -63,8 +63,7 @@ fn match_job(
 
 // The lines of a job. The rows are new for each job, so nothing of the last one is there, and have room for all words and all
 // addresses that a file can hold. Kept: arrays and no `Vec`, since there is no heap.
-pub(crate) fn put_job_lines(job: FoundJob<'_>, row: &mut [u8]) -> usize
-    requires { job_room ≤ length row.old }
+pub(crate) fn put_job_lines(job: FoundJob<'_>, row: &mut [u8; JOB_ROOM]) -> usize
     ensures { TextIn (JobListed job.entry.number (job_at job.entry.file.now job.entry.number)) row.old result row.new × (result ≤ job_room) }
 {
     let mut table = [0u32; MOST_BYTES / 4];

@@ -4,6 +4,7 @@ ghost use Rattle.lines.specs.Lines.{variable_line, line_room};
 ghost use Rattle.listing.specs.Listing.{line_at, variable_lines};
 ghost use Rattle.listing.specs.Steps.Putting.{job_room, PutAt, Tellable};
 
+use crate::parts::JOB_ROOM;
 use lines::LINE_ROOM;
 use words::kind::Kind;
 use words::numbers::{Address, Label};
@@ -41,8 +42,8 @@ fn put_line(table: &[u32], class: &[u16], x: usize, row: &mut [u8], at: usize) -
 }
 
 // The same for all addresses, in order.
-pub(crate) fn put_variables(table: &[u32], class: &[u16], row: &mut [u8], start: usize) -> usize
-    requires { Tellable table.now class.now × (start ≤ line_room) × (job_room ≤ length row.old) }
+pub(crate) fn put_variables(table: &[u32], class: &[u16], row: &mut [u8; JOB_ROOM], start: usize) -> usize
+    requires { Tellable table.now class.now × (start ≤ line_room) }
     ensures { PutAt (variable_lines table.now class.now) start row.old result row.new × (result ≤ job_room) }
 {
     let mut at = start;

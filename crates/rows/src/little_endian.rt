@@ -65,5 +65,7 @@ pub fn write16(bytes: &mut [u8], at: usize, x: u16)
     requires { at + 2 ≤ length bytes.old }
     ensures { bytes.new ≡ placed at (bytes_of 2 x) bytes.old }
 {
-    bytes[at..at + 2].copy_from_slice(&x.to_le_bytes());
+    let [low, high] = x.to_le_bytes();
+    bytes[at] = low;
+    bytes[at + 1] = high;
 }

@@ -30,10 +30,9 @@ abbrev pub answer_lines : ℕ → Matched → List ℕ → List ℕ → List ℕ
 answer_lines job (Ok counts) table class = answer_line job (Ok counts) ++ variable_lines table class
 answer_lines job (Err refusal) table class = answer_line job (Err refusal)
 
--- rows for the job, for a match of it in buffers with room for every table, and for its lines
-pub record RowsForListing (file : List ℕ) (job : ℕ) (table list class work row : List ℕ) : Type 0 where
+-- rows for the job, and for a match of it in buffers with room for every table
+pub record RowsForListing (file : List ℕ) (job : ℕ) (table list class work : List ℕ) : Type 0 where
   pub copied : RowsForJob file job table list
   pub whole : length list ≡ 2 * pairs_in file (entry_of job)
   pub classes : length class ≡ most_words
   pub works : length work ≡ 4 * most_words
-  pub room : job_room ≤ length row

@@ -19,4 +19,4 @@ pub slice_bounds-match_job-end-2 : goal.slice_bounds-match_job-end-2
 slice_bounds-match_job-end-2 c = sym (length-take-le _ _ (omega (arith, (job_fits c.args.job.is_there.there).1, c.args.job.is_there.pairs)))
 
 pub match_job-requires : goal.match_job-requires
-match_job-requires c = rows_for_job _ _ c.args.job.is_there.there c.args.job.is_there.words c.args.job.is_there.pairs refl (omega (arith, (job_fits c.args.job.is_there.there).0, c.args.job.is_there.words)) (omega (arith, (job_fits c.args.job.is_there.there).1, c.args.job.is_there.pairs)) (search rules) (search rules) c.requires
+match_job-requires c = rows_for_job _ _ c.args.job.is_there.there c.args.job.is_there.words c.args.job.is_there.pairs refl (omega (arith, (job_fits c.args.job.is_there.there).0, c.args.job.is_there.words)) (omega (arith, (job_fits c.args.job.is_there.there).1, c.args.job.is_there.pairs)) (search rules) (search rules)

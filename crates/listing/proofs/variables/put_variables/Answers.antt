@@ -1,6 +1,7 @@
 -- `listing::variables::put_variables` meets its contract. Assumes nothing.
 use mathlib.Core.Path.{◌≡◌}
 use native.Mathlib.Omega.{arith}
+use borrow.Author.Rules.{rules}
 use lib.ListN.{length}
 use Rattle.listing.proofs.PutLaws.{telling_none, telling_more}
 use Rattle.listing.proofs.variables.put_variables.Goals as goal
@@ -9,4 +10,4 @@ pub loop-x-init : goal.loop-x-init
 loop-x-init c = telling_none c.requires.1
 
 pub loop-x-preserved : goal.loop-x-preserved
-loop-x-preserved c = telling_more c.requires.0.0 c.requires.2 c.loop-x.invariant (omega arith) c.put_line-at.ensures.0 c.put_line-at.ensures.1
+loop-x-preserved c = telling_more c.requires.0.0 (search rules) c.loop-x.invariant (omega arith) c.put_line-at.ensures.0 c.put_line-at.ensures.1
