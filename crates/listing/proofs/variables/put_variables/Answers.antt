@@ -1,7 +1,5 @@
 -- `listing::variables::put_variables` meets its contract. Assumes nothing.
-use mathlib.Core.Path.{◌≡◌}
 use native.Mathlib.Omega.{arith}
-use lib.ListN.{length}
 use Rattle.listing.proofs.PutLaws.{telling_none, telling_more}
 use Rattle.listing.proofs.variables.put_variables.Goals as goal
 
