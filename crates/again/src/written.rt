@@ -19,6 +19,8 @@ fn rewrite(file: &[u8], room: &mut [u8]) -> Result<(), FileFault>
     Ok(())
 }
 
+// Kept: the length is returned and not the bytes, for the reason at the head of crate lines.
+//
 // Puts what is written for a file over the front of room, and returns how many bytes that is. The bytes after them stay.
 pub(crate) fn again(file: &[u8], room: &mut [u8; MOST_BYTES]) -> usize
     ensures counts { Counts result room.new }

@@ -7,7 +7,7 @@
 --   argument_more, arguments_end, walked_block   a count and its arguments
 --   walked_readable, walked_names   the whole table
 -- Assumes nothing.
-use mathlib.Core.Path.{◌≡◌, refl, sym, ap, subst, ◌∙◌}
+use mathlib.Core.Path.{◌≡◌, refl, ap, subst, ◌∙◌}
 use mathlib.Core.Bool.{Bool, true, false, cond, ◌&&◌, not}
 use mathlib.Core.List.{List}
 use Prim.Native.Nat.{ℕ, zero, suc, ◌+◌, ◌-◌, ◌≤◌, ◌<◌}
@@ -21,7 +21,7 @@ use Rattle.words.specs.declared.kind.Kind.{Kind}
 use Rattle.words.specs.declared.kind.Kind.TheVariants.{Variable, Constant, Function, Pointer, Count}
 use Rattle.words.proofs.Tests.{and_exactly}
 use Rattle.words.proofs.WordLaws.{same_kind_exactly}
-use Rattle.words.proofs.KindLaws.{other_kind, not_both}
+use Rattle.words.proofs.KindLaws.{not_both}
 use Rattle.graphs.proofs.Classes.{never}
 use Rattle.table.specs.Table.{word_at, kind_at, content_at}
 use Rattle.table.specs.Layout.{Wanted, item, count, arguments, more, can_stand, after, at_end}
@@ -53,7 +53,6 @@ good_later t (suc a) k h e w p n = record {
 
 -- the test of a count, and what it shows
 module _ (w : ℕ) where
-
   pub sound_count_lem : sound_count w ≡ true → (kind_of w ≡ Count) × (bad_kind Count (content_of w) ≡ false)
   unfolding sound_count
   sound_count_lem = (and_exactly (same_kind (kind_of w) Count) _ (same_kind_exactly (kind_of w) Count) (not-true _, ap not)).0

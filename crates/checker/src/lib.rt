@@ -5,8 +5,10 @@
 // show that there is none. The stages come in the order of the numbers: what a later one goes by, an
 // earlier one has shown.
 //
-// Kept: table, class and work stay three parameters, as C lends them. `SizeAndRoom` asks of their lengths in
-// a clause, since the rows change between the steps that ask it, and a struct would be built anew for each.
+// Kept: table, class and work stay three parameters, as C lends them, and (table, work, at) of the walks are
+// two of them and a place that goes up. What a step needs of their lengths (`SizeAndRoom`, or that work has
+// 4n entries) it asks in a clause: a struct over rows that are lent to be written would need a clause more
+// in each step, that the rows in it are still those that were lent.
 #![tactic(auto)]
 
 mod faults;

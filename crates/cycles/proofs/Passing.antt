@@ -4,18 +4,17 @@
 use mathlib.Core.Path.{◌≡◌, sym, ap, ◌∙◌, subst}
 use mathlib.Core.Bool.{Bool, true, false, not}
 use mathlib.Core.List.{List}
-use mathlib.Core.Logic.{inr, ⊎_elim}
+use mathlib.Core.Logic.{⊎_elim}
 use Prim.Native.Nat.{ℕ, ◌+◌, ◌≤◌, ◌<◌}
-use native.Mathlib.Decide.{ℕ_discrete, dec_lt}
+use native.Mathlib.Decide.{dec_lt}
 use native.Mathlib.Omega.{arith}
-use lib.Dec.{eqb}
-use borrow.Author.Tests.{not-true, eq-eqb, ne_eqb}
+use borrow.Author.Tests.{not-true}
 use Rattle.std.specs.Prelude.{Option, None, Some, MatchOption}
 use Rattle.words.specs.Word.{same_kind}
 use Rattle.words.specs.declared.kind.Kind.TheVariants.{Function}
 use Rattle.table.specs.Table.{choose, kind_at, content_at, degree}
 use Rattle.cycles.specs.Digraph.{Digraph, digraph_of, Searchable}
-use Rattle.cycles.specs.Steps.Marks.{mark, finished_mark, Safe, Search, Open, Sure, Over, Passed}
+use Rattle.cycles.specs.Steps.Marks.{mark, Safe, Search, Open, Sure, Over, Passed}
 use Rattle.cycles.proofs.Moves.{finished_safe}
 use Rattle.cycles.proofs.Answers.{no_edges_safe}
 

@@ -8,6 +8,10 @@ ghost use Rattle.cycles.specs.Steps.Marks.{Open, Sure, Passed, finished_mark, ma
 
 use crate::reads;
 
+// Kept: a mark is a number and no enum, since it lies in an entry of 16 bits that is lent. (work, n, depth)
+// are the row, how many marks it begins with, and how many of the path stand behind them; the row is
+// written and the other two are not.
+//
 // The mark of a finished vertex. No vertex on the path has it: there a mark is 1 + the edges passed
 // over, and a vertex has 255 edges at most.
 const FINISHED: u16 = 257;

@@ -1,4 +1,6 @@
 // The search from one root, from every name, and the whole.
+//
+// Kept: that a search goes on (`Search`) is asked in a clause: it speaks of a row that is lent to be written.
 ghost use Rattle.std.specs.Prelude.{◌≡◌, ◌*◌, ◌<◌, ◌≤◌, length};
 ghost use Rattle.cycles.specs.Digraph.{digraph_of, Searchable, Searched};
 ghost use Rattle.cycles.specs.Steps.Marks.{Search, FromRoot, Visited, Told, mark};

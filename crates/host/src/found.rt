@@ -6,12 +6,12 @@ ghost use Rattle.host.specs.Host.{HostOf};
 ghost use Rattle.host.specs.Steps.Choice.{Matchable};
 ghost use Rattle.host.specs.Steps.Rows.{RowsFit};
 
-use crate::LIST_ROOM;
-use crate::job;
+use crate::{LIST_ROOM, job};
 use jobfile::FoundJob;
 use words::limits::MOST_WORDS;
 
-// Kept: arrays of three lengths and no `Vec`, since there is no heap.
+// Kept: arrays of three lengths and no `Vec`, since there is no heap. `Matchable` is asked in a clause, since it
+// speaks of the job and of the room.
 //
 // Words of a small and of a middle table, and the entries of a work row for them and for the largest.
 const SMALL: usize = 64;

@@ -6,6 +6,9 @@ ghost use Rattle.host.specs.Steps.Rows.{RowsOfJob};
 use crate::report;
 use jobfile::FoundJob;
 
+// Kept: this and `match_job` of crate listing are two functions, since they tell the answer in two ways, and no crate below
+// both knows jobfile and matcher.
+//
 // Matches the job on rows of just the lengths that it has.
 pub(crate) fn match_lent(
     job: FoundJob<'_>,

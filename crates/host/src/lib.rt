@@ -19,6 +19,9 @@ use words::limits::MOST_ENTRIES;
 const LIST_ROOM: usize = MOST_ENTRIES + 2;
 
 // The answer for the job of a number, from 1, in a job file, and the report of it in the room.
+//
+// Kept: the answer is its number, here and in the steps behind it. A `Result` would be one enum over the refusals of three
+// crates, made to be turned into its number by the one caller, and `HostOf` says what the number is.
 pub fn match_job(file: &[u8], job: u32, room: &mut [u8]) -> u16
     ensures { HostOf file.now job room.old result room.new }
 {

@@ -5,6 +5,8 @@ ghost use Rattle.host.specs.AsOne.{as_one};
 use answering::answer::Answer;
 
 // Answer + 65,536 x place + 4,294,967,296 x a third number: a match's joins, or a file's J.
+//
+// Kept: packed by hand into one number, as the C header says; no form of the library is that.
 pub(crate) fn packed(answer: u16, place: u16, third: u16) -> u64
     ensures { result ≡ as_one answer place third }
 {

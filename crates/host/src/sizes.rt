@@ -8,7 +8,8 @@ use crate::packed;
 use answering::answer::Answer;
 use jobfile::answers::FileFault;
 
-// The file is refused, or there is no room for its sizes.
+// The file is refused, or there is no room for its sizes. Kept: beside jobfile's `NoJob`, which is of this shape, since the two
+// say different things and have different numbers.
 #[derive(Clone, Copy, PartialEq, Eq)]
 enum Refusal {
     File(FileFault),

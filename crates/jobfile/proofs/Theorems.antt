@@ -19,7 +19,7 @@ use mathlib.Core.List.{List, ◌++◌}
 use Rattle.std.specs.Prelude.{Result, Ok, Err}
 use Prim.Native.Nat.{ℕ, zero, suc, ◌+◌, ◌-◌, ◌*◌, ◌≤◌, ◌<◌}
 use native.Mathlib.Omega.{arith}
-use lib.ListN.{length, take, drop, get_or, replicate, length-replicate, length-append, get_or-append}
+use lib.ListN.{length, take, drop, get_or, replicate}
 use lib.Seq.{take_at, take-take, length-take-le}
 use Rattle.rows.specs.LittleEndian.{from_bytes, number_at, AllBytes}
 use Rattle.words.specs.Limits.{most_sizes}

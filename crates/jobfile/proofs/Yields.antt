@@ -5,15 +5,14 @@ use mathlib.Core.List.{List, [], ◌++◌}
 use Rattle.std.specs.Prelude.{Ok, Err}
 use Prim.Native.Nat.{ℕ, ◌+◌, ◌-◌, ◌*◌, ◌≤◌}
 use native.Mathlib.Omega.{arith}
-use lib.ListN.{length, take, drop, replicate, length-replicate, replicate-append-replicate}
+use lib.ListN.{length, drop, replicate, length-replicate, replicate-append-replicate}
 use lib.Seq.{drop_at}
 use Rattle.words.specs.Limits.{most_jobs, most_sizes}
-use Rattle.jobfile.specs.File.{contents_end, count_in, sizes_in}
+use Rattle.jobfile.specs.File.{count_in, sizes_in}
 use Rattle.jobfile.specs.declared.answers.EntryNumber.{EntryNumber}
 use Rattle.jobfile.specs.declared.answers.FileFault.TheVariants.{File, Contents, Body}
-use Rattle.jobfile.specs.Reader.{FileAnswer, Judged, in_row, Holds, BodiesOf}
+use Rattle.jobfile.specs.Reader.{FileAnswer, in_row, Holds}
 use Rattle.jobfile.specs.declared.sizes.Sizes.{Sizes}
-use Rattle.jobfile.proofs.NumberLaws.{to_the_end}
 use Rattle.jobfile.proofs.FileLaws.{length-sizes_from}
 
 -- ---- what is told of a refusal

@@ -11,7 +11,8 @@ use words::limits::MOST_SIZES;
 
 // What the reader yields beside the part of the file that the bodies are.
 //
-// Kept: the sizes beside the answer, since document 01 says what a refusal yields too: "an empty row".
+// Kept: the sizes beside the answer, since document 01 says what a refusal yields too, "an empty row", and `ReadOf`, by which `read`
+// is known, says it.
 #[derive(Clone, Copy)]
 pub struct FileRead {
     pub answer: Result<(), FileFault>,

@@ -1,7 +1,7 @@
 -- What is read into a row, read after read. In order: what was consumed (`consumes_more`); the row (`Filled`,
 -- `filled_more`). Assumes nothing.
-use mathlib.Core.Path.{◌≡◌, refl, sym, ap, ap₂, ◌∙◌}
-use mathlib.Core.List.{List, [], ◌++◌, append_assoc}
+use mathlib.Core.Path.{◌≡◌, sym, ap, ap₂, ◌∙◌}
+use mathlib.Core.List.{List, ◌++◌, append_assoc}
 use Rattle.std.specs.Prelude.{Option, Some, None}
 use Rattle.std.specs.Io.KnownBytes.{Consumes}
 use Prim.Native.Nat.{ℕ, ◌+◌, ◌-◌, ◌≤◌}

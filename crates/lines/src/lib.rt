@@ -3,8 +3,8 @@
 // Each function of a line puts it over the front of a lent row, in which the longest line has room, and returns its length.
 // The bytes after it stay. No function asks anything of its caller.
 //
-// Kept: the length, and not the line itself, is returned, since no clause can say of a row what stays in it while a result borrows
-// from it.
+// Kept: the length, and not the line itself, is returned. `line_in` says that the bytes behind a line stay, and of a row that is
+// lent as an array no clause gets a proof that speaks of it while a result borrows from it.
 #![tactic(auto)]
 
 mod fields;

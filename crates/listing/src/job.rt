@@ -61,8 +61,10 @@ fn match_job(
     put_answer(job.number as u16, answer, table, class, row)
 }
 
+// Kept: arrays and no `Vec`, since there is no heap.
+//
 // The lines of a job. The rows are new for each job, so nothing of the last one is there, and have room for all words and all
-// addresses that a file can hold. Kept: arrays and no `Vec`, since there is no heap.
+// addresses that a file can hold.
 pub(crate) fn put_job_lines(job: FoundJob<'_>, row: &mut [u8; JOB_ROOM]) -> usize
     ensures { TextIn (JobListed job.entry.number (job_at job.entry.file.now job.entry.number)) row.old result row.new × (result ≤ job_room) }
 {

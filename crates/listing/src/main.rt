@@ -14,6 +14,9 @@ use std::io;
 use std::process::ExitCode;
 use words::limits::MOST_BYTES;
 
+// Kept: this, `write_job` and again's `write_again` make a row, fill it and write its front; one function over the row's length
+// and a closure would ask in a clause what each closure may do with a row, which is longer than the three.
+//
 // Writes the first line.
 fn write_first_line(rt: &HostRuntime, file: &[u8]) -> io::Result<()> {
     let mut line = [0u8; LINE_ROOM];

@@ -1,5 +1,7 @@
 // The parts of a listing, each put over the front of a lent row; a function returns how many bytes it put there, and the bytes
 // after them stay. None asks anything of its caller.
+//
+// Kept: the length is returned and not the bytes, for the reason at the head of crate lines.
 ghost use Rattle.lines.specs.Lines.{TextIn, Counts};
 ghost use Rattle.listing.specs.Parts.{FirstLine, JobsTold, JobPart};
 

@@ -23,6 +23,8 @@ fn put_variable(x: Address, label: Label, name: Address, row: &mut [u8], at: usi
     next
 }
 
+// Kept: what may be told of a table (`Tellable`) is asked in a clause: it speaks of two rows that are lent apart.
+//
 // The same for address x, where nothing is put if no variable stands there.
 fn put_line(table: &[u32], class: &[u16], x: usize, row: &mut [u8], at: usize) -> usize
     requires { Tellable table.now class.now × (x < length table.now) × (at + line_room ≤ length row.old) }
@@ -42,7 +44,12 @@ fn put_line(table: &[u32], class: &[u16], x: usize, row: &mut [u8], at: usize) -
 }
 
 // The same for all addresses, in order.
-pub(crate) fn put_variables(table: &[u32], class: &[u16], row: &mut [u8; JOB_ROOM], start: usize) -> usize
+pub(crate) fn put_variables(
+    table: &[u32],
+    class: &[u16],
+    row: &mut [u8; JOB_ROOM],
+    start: usize,
+) -> usize
     requires { Tellable table.now class.now × (start ≤ line_room) }
     ensures { PutAt (variable_lines table.now class.now) start row.old result row.new × (result ≤ job_room) }
 {

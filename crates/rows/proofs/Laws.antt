@@ -17,10 +17,9 @@ use native.Mathlib.Nat.{pow-zero, pow-suc}
 use native.Mathlib.Numerals.{add-one}
 use native.Mathlib.Omega.{arith}
 use mathlib.Core.List.{List, [], ◌∷◌, ◌++◌, append_assoc}
-use lib.ListN.{length, take, drop, get_or, set, replicate, length-replicate, get_or-replicate, get_or-append, length-set, length-append, length-take, length-drop, take-append-drop}
-use lib.Seq.{drop-cons, take-suc, append_snoc, set_at, take_at, drop_at, length-take-le, take_all, take-append-le, drop-append-le, drop-append-add, drop-drop, drop-length, sets, sets-eq}
+use lib.ListN.{length, take, drop, get_or, set, replicate, length-replicate, get_or-replicate, get_or-append, length-set, length-append, length-take, length-drop}
+use lib.Seq.{drop-cons, take-suc, append_snoc, set_at, drop_at, length-take-le, take_all, drop-drop, sets, sets-eq}
 use borrow.Rule.Slice.PartMut.{put_mid}
-use Rattle.std.proofs.lemmas.List.{append-nil}
 use Rattle.rows.specs.LittleEndian.{from_bytes, bytes_of, number_at, AllBytes}
 use Rattle.rows.specs.Placed.{placed, zeroed}
 
@@ -126,7 +125,6 @@ pub filled_front : (n : ℕ) (row filled : List ℕ) → n ≤ length row → fi
 filled_front n row filled h same = rw (same, length-take-le n row h)
 
 module _ {A : Type 0} where
-
   -- What `row[at..at + k].copy_from_slice(xs)` leaves.
   pub copied_within : (at k : ℕ) (xs row copied : List A) → k ≡ length xs → copied ≡ xs → put_mid at k row copied ≡ placed at xs row
   unfolding placed

@@ -1,15 +1,13 @@
 -- The pairs of a list, by its entries: how many there are (`length-pairs_of`), which entries are their sides
 -- (`pair_at_entries`), where a pair stands (`pair_place`), and the pairs of the list so far (`pairs_of-take`). Assumes nothing.
 use mathlib.Core.Path.{◌≡◌, refl, sym, ap, ◌∙◌}
-use mathlib.Core.Bool.{false}
 use mathlib.Core.List.Memᴰ
 use mathlib.Core.List.{List, [], ◌∷◌}
 use Prim.Native.Nat.{ℕ, zero, suc, ◌+◌, ◌*◌, ◌≤◌, ◌<◌}
 use native.Mathlib.Omega.{arith}
 use lib.ListN.{length, get_or, take}
 use Rattle.graphs.specs.Partition.{Pair, pairs_of, ◌∈◌}
-use Rattle.graphs.proofs.Classes.{never}
-use Rattle.table.specs.Faults.{pair_at, odd}
+use Rattle.table.specs.Faults.{pair_at}
 
 -- ---- how many
 

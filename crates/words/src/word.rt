@@ -39,8 +39,10 @@ pub fn address(word: u32) -> Address
     Address(content(word))
 }
 
-// The kind of a word. Kept: not as `From`, since it stands beside the other parts of a word, which are
-// numbers and cannot be read by type. One division tests tag and high bits together: a high bit that is set makes
+// Kept: not as `From`, since it stands beside the other parts of a word, which are numbers and cannot be
+// read by type.
+//
+// The kind of a word. One division tests tag and high bits together: a high bit that is set makes
 // the quotient 32 or more, which is no tag.
 pub fn kind(word: u32) -> Kind
     ensures { result ≡ kind_of word }

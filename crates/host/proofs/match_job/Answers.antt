@@ -1,6 +1,5 @@
 -- `host::match_job` meets its contract.
 -- Assumes nothing.
-use mathlib.Core.Path.{refl}
 use Rattle.host.proofs.ChoiceLaws.{refused_early}
 use Rattle.host.proofs.match_job.Goals as goal
 

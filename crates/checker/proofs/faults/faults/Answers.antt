@@ -1,5 +1,4 @@
 -- `checker::faults::faults` meets its contract: what the walk wrote in the work row lies below 4n. Assumes nothing.
-use borrow.Author.Rules.{rules}
 use Rattle.checker.proofs.CheckLaws.{sound_stage, lent_later}
 use Rattle.checker.proofs.faults.faults.Goals as goal
 

@@ -2,10 +2,9 @@
 -- Assumes nothing.
 use mathlib.Core.Path.{subst}
 use borrow.Author.Rules.{rules}
-use Rattle.std.proofs.lemmas.Result.{err_from_is_err_and}
 use Rattle.table.specs.Faults.{shape_rows}
 use Rattle.checker.specs.Steps.Stage.{ByRows}
-use Rattle.checker.proofs.CheckLaws.{accepted_readable, shape_refused, shape_passed, name_stage, names_passed, lent_later}
+use Rattle.checker.proofs.CheckLaws.{accepted_readable, shape_passed, name_stage, names_passed, lent_later}
 use Rattle.checker.proofs.faults.through_all_rows.Goals as goal
 
 pub first_repeated_name-requires : goal.first_repeated_name-requires

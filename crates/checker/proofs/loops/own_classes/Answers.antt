@@ -3,7 +3,7 @@
 use mathlib.Core.Path.{◌≡◌}
 use native.Mathlib.Omega.{arith}
 use lib.ListN.{get_or}
-use Rattle.rows.proofs.Laws.{built_none, built_more, built_all}
+use Rattle.rows.proofs.Laws.{built_none, built_more}
 use Rattle.checker.specs.Steps.Stage.{counting}
 use Rattle.checker.proofs.LoopLaws.{counting-length, counting_at}
 use Rattle.checker.proofs.loops.own_classes.Goals as goal

@@ -1,7 +1,6 @@
 -- `checker::name_fault::first_repeated_name` meets its contract. The loop's invariant:
 -- no address passed repeats a name, and the work row holds the chains of the variables passed. Assumes nothing.
 use Rattle.table.proofs.Readable.{word_0}
-use Rattle.checker.proofs.NameLaws.{none_first, none_more, answer_here, answer_nowhere}
 use Rattle.checker.proofs.name_fault.first_repeated_name.Goals as goal
 
 pub begin_chains-requires : goal.begin_chains-requires

@@ -1,8 +1,7 @@
 -- `checker::name_fault::put_in_front` meets its contract, by the law of the two stores. Assumes nothing.
 use mathlib.Core.Path.{ap, ◌∙◌}
 use Prim.Native.Nat.{◌*◌}
-use native.Mathlib.Omega.{arith}
-use lib.ListN.{length, length-set}
+use lib.ListN.{length}
 use Rattle.checker.specs.Steps.Names.{start_of}
 use Rattle.checker.proofs.NameLaws.{put_front}
 use Rattle.checker.proofs.name_fault.put_in_front.Goals as goal

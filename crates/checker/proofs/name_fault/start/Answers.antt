@@ -1,7 +1,6 @@
 -- `checker::name_fault::start` meets its contract: a 16-bit number times the starts is below 65,536 times them. Assumes nothing.
 use mathlib.Core.Path.{refl}
-use native.Mathlib.Omega.{arith}
-use Rattle.checker.proofs.ChainLaws.{spread_below, start_below}
+use Rattle.checker.proofs.ChainLaws.{start_below}
 use Rattle.checker.specs.Steps.Names.{start_of}
 use Rattle.checker.proofs.name_fault.start.Goals as goal
 

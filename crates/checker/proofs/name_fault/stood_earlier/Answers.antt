@@ -1,9 +1,8 @@
 -- `checker::name_fault::stood_earlier` meets its contract. The loop's invariant: each earlier variable of the label
 -- is in what is left of the chain. Links fall, so the measure is the address that the walk has come to. Assumes nothing.
 use mathlib.Core.Path.{refl, sym, ◌∙◌}
-use native.Mathlib.Omega.{arith}
-use borrow.Author.Tests.{eqb-true, eqb-false}
-use Rattle.checker.proofs.ChainLaws.{walk_begins, walk_goes_on, walk_falls, walk_hits, walk_misses}
+use borrow.Author.Tests.{eqb-false}
+use Rattle.checker.proofs.ChainLaws.{walk_goes_on}
 use Rattle.checker.proofs.name_fault.stood_earlier.Goals as goal
 
 pub loop-earlier-preserved : goal.loop-earlier-preserved

@@ -1,8 +1,7 @@
 -- `checker::sound::after_block` meets its contract: a count, and then its arguments. Assumes nothing.
 use native.Mathlib.Omega.{arith}
 use Rattle.std.proofs.Common.{rules}
-use Rattle.checker.proofs.NameLaws.{stays_same}
-use Rattle.checker.proofs.WalkLaws.{nowhere, count_chained, next_arguments}
+use Rattle.checker.proofs.WalkLaws.{count_chained, next_arguments}
 use Rattle.checker.proofs.sound.after_block.Goals as goal
 
 pub are_sound_arguments-requires : goal.are_sound_arguments-requires

@@ -1,10 +1,7 @@
 -- `checker::sound::after_item` meets its contract: one case a branch. Assumes nothing.
-use mathlib.Core.Path.{refl, sym, ◌∙◌}
-use native.Mathlib.Omega.{arith}
-use Rattle.words.proofs.KindLaws.{not_both}
-use Rattle.checker.proofs.NameLaws.{stays_same, chained_pass, judged_stays}
+use mathlib.Core.Path.{sym, ◌∙◌}
 use Rattle.checker.proofs.SoundLaws.{function_word}
-use Rattle.checker.proofs.WalkLaws.{nowhere, next_variable, next_constant, next_block}
+use Rattle.checker.proofs.WalkLaws.{next_variable, next_constant, next_block}
 use Rattle.checker.proofs.sound.after_item.Goals as goal
 
 pub returns-else-repeats_variable : goal.returns-else-repeats_variable

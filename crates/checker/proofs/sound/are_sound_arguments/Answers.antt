@@ -1,7 +1,6 @@
 -- `checker::sound::are_sound_arguments` meets its contract: the walk has come to `at`, and as many
 -- arguments are to come as words are left. Assumes nothing.
-use native.Mathlib.Omega.{arith}
-use Rattle.checker.proofs.WalkLaws.{arguments_none, arguments_more, arguments_stop, arguments_all}
+use Rattle.checker.proofs.WalkLaws.{arguments_more}
 use Rattle.checker.proofs.sound.are_sound_arguments.Goals as goal
 
 pub loop-at-preserved : goal.loop-at-preserved

@@ -1,7 +1,5 @@
 -- `checker::sound::is_sound` meets its contract: the walk has come from address 1 to `at`, where an item may stand. Assumes nothing.
-use native.Mathlib.Omega.{arith}
-use Rattle.checker.proofs.NameLaws.{stays_same, stays_on}
-use Rattle.checker.proofs.WalkLaws.{items_none, items_more, sound_table, unsound_table}
+use Rattle.checker.proofs.WalkLaws.{sound_table}
 use Rattle.checker.proofs.sound.is_sound.Goals as goal
 
 pub returns : goal.returns

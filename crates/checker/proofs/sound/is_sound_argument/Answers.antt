@@ -1,7 +1,7 @@
 -- `checker::sound::is_sound_argument` meets its contract: one case a branch. Assumes nothing.
 use mathlib.Core.Path.{sym, ap, ◌∙◌}
 use Rattle.table.specs.Faults.{bad_target}
-use Rattle.checker.proofs.WalkLaws.{variable_argument, constant_argument, pointer_argument, no_argument}
+use Rattle.checker.proofs.WalkLaws.{variable_argument, constant_argument, pointer_argument}
 use Rattle.checker.proofs.sound.is_sound_argument.Goals as goal
 
 pub returns-in-Variable : goal.returns-in-Variable

@@ -3,7 +3,7 @@
 use native.Mathlib.Omega.{arith}
 use borrow.Author.Rules.{rules}
 use lib.ListN.{length-set}
-use Rattle.classes.proofs.Climbs.{climb_none, climb_higher, climb_more, climb_less, climb_end}
+use Rattle.classes.proofs.Climbs.{climb_none, climb_higher, climb_more, climb_less}
 use Rattle.classes.proofs.forest.root.Goals as goal
 
 pub loop-above-init : goal.loop-above-init

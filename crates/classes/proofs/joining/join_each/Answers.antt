@@ -4,7 +4,7 @@ use mathlib.Core.Path.{refl}
 use native.Mathlib.Omega.{arith}
 use Rattle.table.proofs.Pairs.{length-pairs_of, length-pairs_of_over}
 use Rattle.classes.specs.Steps.Lists.{one_clashes}
-use Rattle.classes.proofs.OneByOne.{begins, joins_on, clashes_here, all_met, side_nodes}
+use Rattle.classes.proofs.OneByOne.{joins_on, clashes_here, all_met, side_nodes}
 use Rattle.classes.proofs.joining.join_each.Goals as goal
 
 pub join_pair-requires : goal.join_pair-requires

@@ -1,7 +1,7 @@
 -- `classes::own::apart` meets its contract. The loop's invariant is `Built`: the row is made from the front. Assumes nothing.
 use mathlib.Core.Path.{refl, sym, ap, ◌∙◌}
 use mathlib.Core.Bool.{Bool, cond}
-use Rattle.rows.proofs.Laws.{built_none, built_all}
+use Rattle.rows.proofs.Laws.{built_none}
 use Rattle.classes.proofs.OwnClasses.{apart_long, apart_more}
 use Rattle.classes.proofs.own.apart.Goals as goal
 use Rattle.classes.proofs.own.apart.Goals.{then-is_node_word, else-is_node_word}

@@ -1,7 +1,7 @@
 -- `classes::settle::settle` meets its contract. The measure is what is left to do: each pair that goes down either joins two classes
 -- for each pair that it lets wait, or lets none wait. Assumes nothing.
 use mathlib.Core.List.{[]}
-use Rattle.classes.proofs.Moves.{moved_none, err_settled}
+use Rattle.classes.proofs.Moves.{err_settled}
 use Rattle.classes.proofs.Down.{settling_on, settling_less, settling_stops, settling_ends}
 use Rattle.classes.proofs.settle.settle.Goals as goal
 

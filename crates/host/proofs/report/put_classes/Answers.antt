@@ -2,7 +2,7 @@
 -- Assumes nothing.
 use mathlib.Core.Path.{refl}
 use native.Mathlib.Omega.{arith}
-use Rattle.host.proofs.ReportLaws.{reporting_none, reporting_more, reporting_all}
+use Rattle.host.proofs.ReportLaws.{reporting_none, reporting_more}
 use Rattle.host.proofs.report.put_classes.Goals as goal
 
 pub loop-i-init : goal.loop-i-init

@@ -1,9 +1,8 @@
 -- `host::sizes::copy_sizes` meets its contract.
 -- Assumes nothing.
 use native.Mathlib.Omega.{arith}
-use Rattle.std.proofs.lemmas.Result.{err_from_is_err_and}
 use Rattle.jobfile.proofs.ReaderLaws.{judged_good}
-use Rattle.host.proofs.SizesLaws.{copy_refused, copy_short, copied_all}
+use Rattle.host.proofs.SizesLaws.{copy_short, copied_all}
 use Rattle.host.proofs.sizes.copy_sizes.Goals as goal
 
 pub read-jobs-requires : goal.read-jobs-requires

@@ -1,7 +1,5 @@
 -- `listing::job::match_job` meets its contract. Assumes nothing.
-use mathlib.Core.Path.{sym, ◌∙◌}
-use native.Mathlib.Omega.{arith}
-use Rattle.listing.proofs.JobLaws.{tellable, job_told}
+use Rattle.listing.proofs.JobLaws.{job_told}
 use Rattle.listing.proofs.job.match_job.Goals as goal
 
 pub returns : goal.returns

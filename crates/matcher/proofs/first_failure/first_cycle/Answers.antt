@@ -3,7 +3,7 @@
 use native.Mathlib.Omega.{arith}
 use Rattle.table.proofs.Pairs.{length-pairs_of}
 use Rattle.matcher.proofs.FirstPairs.{standing_after}
-use Rattle.matcher.proofs.Halving.{fewer_clashless, halved_start, lower_half, halved_end}
+use Rattle.matcher.proofs.Halving.{fewer_clashless, halved_start}
 use Rattle.matcher.proofs.first_failure.first_cycle.Goals as goal
 
 pub loop-none-init : goal.loop-none-init

@@ -2,10 +2,9 @@
 use mathlib.Core.Path.{◌≡◌, subst}
 use mathlib.Core.Bool.{Bool, true, false}
 use Prim.Native.Nat.{ℕ}
-use native.Mathlib.Omega.{arith}
 use borrow.Author.Rules.{rules}
 use Rattle.std.proofs.Common.{tests}
-use Rattle.std.proofs.lemmas.Iterator.{first_from_Range, serves_from_Range}
+use Rattle.std.proofs.lemmas.Iterator.{first_from_Range}
 use Rattle.graphs.specs.Partition.{pairs_of}
 use Rattle.table.specs.Faults.{pair_at, bad_sides}
 use Rattle.answering.specs.Answers.{Found}
