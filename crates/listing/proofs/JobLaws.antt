@@ -27,7 +27,7 @@ use Rattle.jobfile.proofs.Theorems.{job_body}
 use Rattle.lines.specs.Lines.{job_line, LineIn, TextIn}
 use Rattle.listing.specs.Listing.{variable_lines, sent_for, JobListed, job_refused, job_accepted}
 use Rattle.listing.specs.Parts.{job_at}
-use Rattle.listing.specs.Steps.Putting.{job_room, Tellable, answer_line, answer_lines, RowsForListing}
+use Rattle.listing.specs.Steps.Putting.{Tellable, answer_line, answer_lines, RowsForListing}
 use Rattle.listing.proofs.PutLaws.{lines_front}
 
 -- ---- its rows

@@ -1,7 +1,6 @@
 -- `listing::variables::put_variables` meets its contract. Assumes nothing.
 use native.Mathlib.Omega.{arith}
 use borrow.Author.Rules.{rules}
-use lib.ListN.{length}
 use Rattle.listing.proofs.PutLaws.{telling_none, telling_more}
 use Rattle.listing.proofs.variables.put_variables.Goals as goal
 
