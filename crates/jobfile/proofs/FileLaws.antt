@@ -1,7 +1,7 @@
 -- Laws of the job file's definitions.
 --
 -- In order:
---     sizes                  length-sizes_from, size_there, size_in, sizes_end
+--     sizes                  length-sizes_from, size_there, size_in, entry_in_sizes, sizes_end
 --     lengths                length-contents_of, length-file_of
 --     written, then read     ReadBack, read-back: entries that were written are read again
 --     read, then written     contents_again
@@ -42,6 +42,15 @@ pub size_in : (bytes : List ℕ) (i : ℕ) → i < 2 * count_in bytes → number
 size_in bytes i h =
     let way : 2 + 6 * (i / 2) + 2 + 2 * (i % 2) ≡ 2 + 6 * (0 + i / 2) + 2 + 2 * (i % 2) = omega arith in
     ap (λ (at : ℕ). number_at 2 at bytes) way ∙ sym (size_there (count_in bytes) 0 i bytes h)
+
+-- n and p of entry k, in the row of sizes
+pub entry_in_sizes : (bytes : List ℕ) (k : ℕ) → k < count_in bytes → (get_or (sizes_in bytes) (2 * k) 0 ≡ words_in bytes k) × (get_or (sizes_in bytes) (2 * k + 1) 0 ≡ pairs_in bytes k)
+entry_in_sizes bytes k h =
+    let words : 2 + 6 * ((2 * k) / 2) + 2 + 2 * ((2 * k) % 2) ≡ 2 + 6 * k + 2 = omega arith in
+    let pairs : 2 + 6 * ((2 * k + 1) / 2) + 2 + 2 * ((2 * k + 1) % 2) ≡ 2 + 6 * k + 4 = omega arith in (
+      sym (size_in bytes (2 * k) (omega arith)) ∙ ap (λ (at : ℕ). number_at 2 at bytes) words,
+      sym (size_in bytes (2 * k + 1) (omega arith)) ∙ ap (λ (at : ℕ). number_at 2 at bytes) pairs,
+    )
 
 -- the bodies of m entries end where the next body would start
 pub sizes_end : (m k : ℕ) (bytes : List ℕ) → body_start bytes k + bodies_size (sizes_from m k bytes) ≡ body_start bytes (k + m)

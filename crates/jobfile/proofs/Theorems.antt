@@ -5,10 +5,10 @@
 --     writer_writes_good         the writer writes only good files, with the sizes and bodies that it was sent
 --     good_read_written_again    a good file read and written again has the same bytes
 --     jobs_written, jobs_read_back    jobs written to a file are read back as the same jobs: sizes, words and pairs
---     good_count                 how many sizes a good file has
+--     good_count, good_entry     how many sizes a good file has, and where n and p of an entry stand
 --     job_body                   job k of a file is what its own body holds
 --     cut_not_good               the front of a good file is not good
---     read_sizes, read_count     which sizes count, and that they are at most 128
+--     read_sizes, read_count, read_length    which sizes count, that they are at most 128, and how long their row is
 --     find_only                  a look for a job tells one thing of a file and a number
 --
 -- Two results that a public contract allows are equal: `judged_only`, `read_only` and `bodies_only` (ReaderLaws.antt), `write_only`
@@ -19,7 +19,7 @@ use mathlib.Core.List.{List, ◌++◌}
 use Rattle.std.specs.Prelude.{Result, Ok, Err}
 use Prim.Native.Nat.{ℕ, zero, suc, ◌+◌, ◌-◌, ◌*◌, ◌≤◌, ◌<◌}
 use native.Mathlib.Omega.{arith}
-use lib.ListN.{length, take, drop, get_or, replicate}
+use lib.ListN.{length, take, drop, get_or, replicate, length-replicate, length-append, get_or-append}
 use lib.Seq.{take_at, take-take, length-take-le}
 use Rattle.rows.specs.LittleEndian.{from_bytes, number_at, AllBytes}
 use Rattle.words.specs.Limits.{most_sizes}
@@ -34,7 +34,7 @@ use Rattle.jobfile.specs.declared.found.NoJob.{NoJob}
 use Rattle.jobfile.specs.declared.found.NoJob.TheVariants.{File, Number}
 use Rattle.jobfile.specs.declared.job.FoundJob.{FoundJob}
 use Rattle.jobfile.specs.declared.sizes.Sizes.{Sizes}
-use Rattle.jobfile.proofs.FileLaws.{length-sizes_from}
+use Rattle.jobfile.proofs.FileLaws.{length-sizes_from, entry_in_sizes}
 use Rattle.jobfile.proofs.ReaderLaws.{fault_refuses, judged_only, good_judged, judged_good}
 use Rattle.jobfile.proofs.WriteAnswers.{written_writable, writable_written}
 use Rattle.jobfile.proofs.Written.{Writable, written_good, written_sizes, written_bodies, good_again, good_writable}
@@ -62,6 +62,18 @@ module _ {bytes : List ℕ} (good : GoodFile bytes) where
 
   pub good_count : {answer : FileAnswer} {sizes : Sizes} → ReadOf bytes answer sizes → sizes.count ≡ 2 * count_in bytes
   good_count r = r.yielded.counted ∙ ap (λ (q : FileAnswer). length (yielded_sizes q bytes)) ((reader_accepts_good r).1 good) ∙ length-sizes_from (count_in bytes) 0 bytes
+
+  -- n and p of entry k, in the row by value
+  pub good_entry : {answer : FileAnswer} {sizes : Sizes} → ReadOf bytes answer sizes → (k : ℕ) → k < count_in bytes
+      → (get_or sizes.row (2 * k) 0 ≡ words_in bytes k) × (get_or sizes.row (2 * k + 1) 0 ≡ pairs_in bytes k)
+  unfolding in_row
+  good_entry {sizes = sizes} r k h =
+      let row : sizes.row ≡ in_row (sizes_in bytes) = r.yielded.numbers ∙ ap (λ (q : FileAnswer). in_row (yielded_sizes q bytes)) ((reader_accepts_good r).1 good) in
+      let at : (i : ℕ) → i < 2 * count_in bytes → get_or sizes.row i 0 ≡ get_or (sizes_in bytes) i 0 =
+      λ i l. ap (λ (xs : List ℕ). get_or xs i 0) row
+      ∙ get_or-append (sizes_in bytes) (replicate (most_sizes - length (sizes_in bytes)) 0) 0 i (omega (arith, length-sizes_from (count_in bytes) 0 bytes)) in
+      let held = entry_in_sizes bytes k h in
+      (at (2 * k) (omega arith) ∙ held.0, at (2 * k + 1) (omega arith) ∙ held.1)
 
   pub good_bodies : {part : List ℕ} → BodiesOf bytes part → part ≡ bodies_in bytes
   good_bodies b = b.yielded ∙ ap (λ (q : FileAnswer). yielded_bodies q bytes) (judged_only b.answer (Ok tt) b.judged (good_judged good))
@@ -159,6 +171,19 @@ read_count {bytes} {answer} {sizes} r = go answer r.judged r.yielded.counted
     go : (q : FileAnswer) → Judged bytes q → sizes.count ≡ length (yielded_sizes q bytes) → sizes.count ≤ most_sizes
     go (Ok good) judged e = omega (arith, length-sizes_from (count_in bytes) 0 bytes, (judged_good judged).few_jobs)
     go (Err fault) judged e = omega arith
+
+pub read_length : {bytes : List ℕ} {answer : FileAnswer} {sizes : Sizes} → ReadOf bytes answer sizes → length sizes.row ≡ most_sizes
+unfolding in_row
+read_length {bytes} {answer} r =
+    let xs : List ℕ = yielded_sizes answer bytes in
+    omega (
+      arith,
+      read_count r,
+      r.yielded.counted,
+      ap length r.yielded.numbers,
+      length-append xs (replicate (most_sizes - length xs) 0),
+      length-replicate {A = ℕ} (most_sizes - length xs) 0,
+    )
 
 -- ---- a look for a job
 

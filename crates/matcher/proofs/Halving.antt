@@ -95,6 +95,16 @@ module _ {t list class₀ work₀ class work class_after work_after : List ℕ} 
         cycle = subst (λ (b : Bool). Cycles b (graph_of t) (take middle (pairs_of list))) e tells.truth;
       }
 
+  pub upper_half : found ≡ false → Halved t list class₀ work₀ all class_after work_after middle many
+  upper_half e =
+      record {
+        lent = lent_join h.lent tells.lent;
+        apart = above;
+        within = h.within;
+        none_yet = subst (λ (b : Bool). Cycles b (graph_of t) (take middle (pairs_of list))) e tells.truth;
+        cycle = h.cycle;
+      }
+
 pub halved_end : {t list class₀ work₀ class work : List ℕ} {all few many : ℕ} → Halved t list class₀ work₀ all class work few many → many ≤ few + 1 → CycleAt t list class₀ work₀ all many class work
 halved_end {t} {list} {few = few} {many = many} h e =
     let same : many ≡ few + 1 = omega (arith, h.apart) in

@@ -1,11 +1,11 @@
 -- The laws of rows, each over the width or the type of an entry, so that none is said twice.
 --
 -- In order:
---     numbers as bytes          length-bytes_of, number_bytes_of, bytes_of_number
+--     numbers as bytes          length-bytes_of, number_bytes_of, number_below, bytes_of_number
 --     a number byte by byte     fetched, number_at-fetched, from_bytes-fetched (a read); placed-sets (a write)
---     a row put over a part     length-placed
+--     a row put over a part     length-placed, number_at-placed, number_at-placed_before, number_at-placed_after
 --     a row from the front      Built, built_none, built_more, built_all: every loop that clears, fills or copies
---     by the library's methods  filled_front (`fill`); copied_within (`copy_from_slice`)
+--     by the library's methods  filled_front, filled_whole (`fill`); copied_front, copied_within (`copy_from_slice`); front_placed
 --     behind the front          behind_stays, behind_cleared, cleared_zero: what a replaced or cleared front leaves
 --     one answer                equations_agree
 --
@@ -17,9 +17,10 @@ use native.Mathlib.Nat.{pow-zero, pow-suc}
 use native.Mathlib.Numerals.{add-one}
 use native.Mathlib.Omega.{arith}
 use mathlib.Core.List.{List, [], ◌∷◌, ◌++◌, append_assoc}
-use lib.ListN.{length, take, drop, get_or, set, replicate, length-replicate, get_or-replicate, get_or-append, length-set, length-append, length-take, length-drop}
-use lib.Seq.{drop-cons, take-suc, append_snoc, set_at, drop_at, length-take-le, take_all, drop-drop, sets, sets-eq}
+use lib.ListN.{length, take, drop, get_or, set, replicate, length-replicate, get_or-replicate, get_or-append, length-set, length-append, length-take, length-drop, take-append-drop}
+use lib.Seq.{drop-cons, take-suc, append_snoc, set_at, take_at, drop_at, length-take-le, take_all, take-append-le, drop-append-le, drop-append-add, drop-drop, drop-length, sets, sets-eq}
 use borrow.Rule.Slice.PartMut.{put_mid}
+use Rattle.std.proofs.lemmas.List.{append-nil}
 use Rattle.rows.specs.LittleEndian.{from_bytes, bytes_of, number_at, AllBytes}
 use Rattle.rows.specs.Placed.{placed, zeroed}
 
@@ -37,6 +38,12 @@ number_bytes_of zero x h = omega (arith, pow-zero 256)
 number_bytes_of (suc k) x h =
     let rest : from_bytes (bytes_of k (x / 256)) ≡ x / 256 = number_bytes_of k (x / 256) (omega (arith, pow-suc 256 k)) in
     omega arith
+
+-- what k bytes make, k bytes can hold
+pub number_below : (bs : List ℕ) → AllBytes bs → from_bytes bs < 256 ^ length bs
+unfolding from_bytes
+number_below [] h = omega (arith, pow-zero 256)
+number_below (b ∷ bs) h = omega (arith, pow-suc 256 (length bs), number_below bs (λ i. h (suc i)), h 0)
 
 -- the bytes of the number that bytes make are those bytes
 pub bytes_of_number : (bs : List ℕ) → AllBytes bs → bytes_of (length bs) (from_bytes bs) ≡ bs
@@ -79,6 +86,46 @@ module _ {ℓ} {A : Type ℓ} where
   pub length-placed : (at : ℕ) (xs row : List A) → at + length xs ≤ length row → length (placed at xs row) ≡ length row
   unfolding placed
   length-placed at xs row h = simp (length-append, length-take, length-drop) (omega arith)
+
+  -- the k entries from place `at` on, where they all lie in a front
+  part_front : (k at : ℕ) (front rest : List A) → at + k ≤ length front → take k (drop at (front ++ rest)) ≡ take k (drop at front)
+  part_front k at front rest h =
+      let start : at ≤ length front = omega arith in
+      let end : k ≤ length (drop at front) = simp length-drop (omega arith) in
+      rw (drop-append-le, take-append-le)
+
+-- a number is read back from where its bytes were placed
+pub number_at-placed : (k x at : ℕ) (row : List ℕ) → x < 256 ^ k → at + k ≤ length row → number_at k at (placed at (bytes_of k x) row) ≡ x
+unfolding number_at placed
+number_at-placed k x at row below h =
+    let start : length (take at row) ≡ at = length-take-le at row (omega arith) in
+    rw (append_assoc, drop_at (take at row) _ at start, take_at (bytes_of k x) _ k (length-bytes_of k x)) (number_bytes_of k x below)
+
+-- a number that ends before what was placed is as it was
+pub number_at-placed_before : (k from at : ℕ) (xs row : List ℕ) → from + k ≤ at → at ≤ length row
+    → number_at k from (placed at xs row) ≡ number_at k from row
+unfolding number_at placed
+number_at-placed_before k from at xs row h inside =
+    let front : from + k ≤ length (take at row) = simp (length-take-le at row inside) h in
+    ap from_bytes
+    (simp append_assoc (part_front k from (take at row) (xs ++ drop (at + length xs) row) front)
+    ∙ sym (part_front k from (take at row) (drop at row) front)
+    ∙ ap (λ (l : List ℕ). take k (drop from l)) (take-append-drop at row))
+
+-- a number that starts after what was placed is as it was
+pub number_at-placed_after : (k from at : ℕ) (xs row : List ℕ) → at + length xs ≤ from → at ≤ length row
+    → number_at k from (placed at xs row) ≡ number_at k from row
+unfolding number_at placed
+number_at-placed_after k from at xs row h inside =
+    let n : ℕ = at + length xs in
+    let past : ℕ = from - n in
+    let way : from ≡ n + past = omega arith in
+    let head : length (take at row ++ xs) ≡ n = simp (length-append, length-take-le at row inside) in
+    ap (λ (l : List ℕ). from_bytes (take k l))
+    (ap (λ (m : ℕ). drop m (placed at xs row)) (way ∙ ap (λ (m : ℕ). m + past) (sym head))
+    ∙ drop-append-add (take at row ++ xs) (drop n row) past
+    ∙ drop-drop past n row
+    ∙ ap (λ (m : ℕ). drop m row) (sym way))
 
 -- ---- a row from the front
 
@@ -124,11 +171,24 @@ module _ {A : Type 0} where
 pub filled_front : (n : ℕ) (row filled : List ℕ) → n ≤ length row → filled ≡ replicate (length (take n row)) 0 → filled ++ drop n row ≡ zeroed n row
 filled_front n row filled h same = rw (same, length-take-le n row h)
 
+-- What `row.fill(0)` leaves: the whole row is its front.
+pub filled_whole : (row filled : List ℕ) → filled ≡ replicate (length row) 0 → filled ≡ zeroed (length row) row
+filled_whole row filled same = rw (same, drop-length, append-nil)
+
 module _ {A : Type 0} where
+  -- What `row[..k].copy_from_slice(xs)` leaves: the last argument is `c.copy_from_slice.ensures.after`, here and in the next.
+  pub copied_front : (k : ℕ) (xs row copied : List A) → k ≡ length xs → copied ≡ xs → copied ++ drop k row ≡ xs ++ drop (length xs) row
+  copied_front k xs row copied long same = rw (same, long)
+
   -- What `row[at..at + k].copy_from_slice(xs)` leaves.
   pub copied_within : (at k : ℕ) (xs row copied : List A) → k ≡ length xs → copied ≡ xs → put_mid at k row copied ≡ placed at xs row
   unfolding placed
   copied_within at k xs row copied long same = rw (same, long, drop-drop, append_assoc)
+
+  -- A row put over the front of another is placed there.
+  pub front_placed : (xs row : List A) → xs ++ drop (length xs) row ≡ placed 0 xs row
+  unfolding placed
+  front_placed xs row = let from_0 : length xs ≡ 0 + length xs = omega arith in ap (λ (n : ℕ). xs ++ drop n row) from_0
 
 -- ---- behind the front
 

@@ -1,13 +1,15 @@
 -- The pairs of a list, by its entries: how many there are (`length-pairs_of`), which entries are their sides
 -- (`pair_at_entries`), where a pair stands (`pair_place`), and the pairs of the list so far (`pairs_of-take`). Assumes nothing.
 use mathlib.Core.Path.{◌≡◌, refl, sym, ap, ◌∙◌}
+use mathlib.Core.Bool.{false}
 use mathlib.Core.List.Memᴰ
 use mathlib.Core.List.{List, [], ◌∷◌}
 use Prim.Native.Nat.{ℕ, zero, suc, ◌+◌, ◌*◌, ◌≤◌, ◌<◌}
 use native.Mathlib.Omega.{arith}
 use lib.ListN.{length, get_or, take}
 use Rattle.graphs.specs.Partition.{Pair, pairs_of, ◌∈◌}
-use Rattle.table.specs.Faults.{pair_at}
+use Rattle.graphs.proofs.Classes.{never}
+use Rattle.table.specs.Faults.{pair_at, odd}
 
 -- ---- how many
 
@@ -23,6 +25,13 @@ unfolding pairs_of
 length-pairs_of_over [] = omega arith
 length-pairs_of_over (l ∷ []) = omega arith
 length-pairs_of_over (l ∷ r ∷ rest) = omega (arith, length-pairs_of_over rest)
+
+-- None is left over where the number of entries is even.
+pub length-pairs_of_even : (list : List ℕ) → odd list ≡ false → length list ≡ 2 * length (pairs_of list)
+unfolding pairs_of odd
+length-pairs_of_even [] e = omega arith
+length-pairs_of_even (l ∷ []) e = never (cc)
+length-pairs_of_even (l ∷ r ∷ rest) e = omega (arith, length-pairs_of_even rest e)
 
 -- ---- the sides
 
