@@ -40,6 +40,8 @@ fn write_listing(rt: &HostRuntime, file: &[u8]) -> io::Result<()> {
     Ok(())
 }
 
+// Kept: beside again's `main`, since each program has one, and its own message.
+//
 // A file has at most 32,768 bytes; one byte more is read, so that a longer one is refused and not cut short.
 fn main(rt: HostRuntime) -> ExitCode {
     let mut file = [0u8; MOST_BYTES + 1];

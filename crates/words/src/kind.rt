@@ -26,6 +26,8 @@ pub fn is_node(kind: Kind) -> bool
 }
 
 // Whether a word of this kind can be an argument.
+//
+// Kept: this and `is_node` differ in a set alone, and each is the line that names its set.
 pub fn is_argument(kind: Kind) -> bool
     ensures { result ≡ is_one_of argument_kinds kind }
 {
