@@ -13,9 +13,8 @@ use Rattle.jobfile.specs.File.{GoodFile}
 use Rattle.jobfile.specs.Reader.{FileAnswer, fault_number, fault_place, Judged, yielded_sizes, ReadOf, BodiesOf}
 use Rattle.jobfile.specs.Writer.{WriteAnswer, WriteOf}
 use Rattle.jobfile.specs.declared.answers.FileFault.{FileFault}
-use Rattle.jobfile.specs.declared.answers.FileFault.TheVariants.{File, Contents, Body}
 use Rattle.jobfile.specs.declared.sizes.Sizes.{Sizes}
-use Rattle.jobfile.proofs.ReaderLaws.{answered_once, judged_good, good_judged}
+use Rattle.jobfile.proofs.ReaderLaws.{answered_once, fault_refuses, judged_good, not_good}
 use Rattle.jobfile.proofs.WriteAnswers.{write_contents, write_only}
 use Rattle.jobfile.proofs.Theorems.{reader_accepts_good, read_sizes, good_read_written_again}
 use Rattle.lines.specs.Lines.{file_line, LineIn, TextIn}
@@ -56,20 +55,15 @@ module _ {file room after : List ℕ} where
   put_refused {r = r} fault w line =
       record {
         text = file_line (fault_number fault) (fault_place fault);
-        is = refusal w.judged (refused fault);
+        is = refusal w.judged (fault_refuses fault);
         there = subst (λ (row : List ℕ). LineIn (file_line (fault_number fault) (fault_place fault)) row r after) w.same line;
       }
-    where
-      refused : (f : FileFault) → fault_number f ≡ 0 → ⊥
-      refused File z = omega arith
-      refused Contents z = omega arith
-      refused (Body entry) z = omega arith
 
 -- ---- one result
 
 -- a file is written again in one way; with `text_only` of lines, two results that the contract of again allows are equal
 pub again_only : {file : List ℕ} (x y : List ℕ) → AgainOf file x → AgainOf file y → x ≡ y
 again_only x y (same_bytes good) (same_bytes also) = refl
-again_only {file} x y (same_bytes good) (refusal b other) = absurd (other (answered_once b (good_judged good)).0)
-again_only {file} x y (refusal a other) (same_bytes good) = absurd (other (answered_once a (good_judged good)).0)
+again_only {file} x y (same_bytes good) (refusal b other) = absurd (not_good b other good)
+again_only {file} x y (refusal a other) (same_bytes good) = absurd (not_good a other good)
 again_only {file} x y (refusal a other) (refusal b different) = let e = answered_once a b in ap₂ file_line e.0 e.1

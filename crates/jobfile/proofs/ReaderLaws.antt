@@ -5,7 +5,7 @@
 --                       bodies_wrong, bodies_past, bodies_follow: how it ends
 --     the whole         judged_file, judged_contents
 --     one answer        read_once, answered_once, fault_refuses, judged_only, read_only, bodies_only
---     a good file       body_inside, good_judged, judged_good
+--     a good file       body_inside, good_judged, not_good, judged_good
 -- Assumes nothing.
 use mathlib.Core.Path.{◌≡◌, refl, sym, ap, ap₂, ◌∙◌, subst}
 use mathlib.Core.HLevel.{is_prop→PathP}
@@ -199,6 +199,10 @@ good_judged {bytes} good = inr (no_file good.at_least good.at_most, inr (no_cont
 
     no_bodies : (p : ℕ) → ReadFault bytes BODY p → ⊥
     no_bodies p (body_fault lowest) = no_fault p lowest.has
+
+-- a file that is answered by another number than 0 is not good
+pub not_good : {bytes : List ℕ} {a p : ℕ} → Answered file_number (ReadFault bytes) read_order a p → (a ≡ 0 → ⊥) → GoodFile bytes → ⊥
+not_good x other good = other (answered_once x (good_judged good)).0
 
 -- Where no fault is the lowest, every entry is fine.
 module _ {bytes : List ℕ} {jobs : ℕ} (opened : Opened bytes jobs) (none_lowest : (p : ℕ) → Lowest (BodyFault bytes) p → ⊥) where

@@ -13,7 +13,7 @@ use Rattle.jobfile.specs.declared.answers.FileFault.{FileFault}
 use Rattle.jobfile.specs.declared.found.NoJob.{NoJob}
 use Rattle.jobfile.specs.declared.found.NoJob.TheVariants.{File, Number}
 use Rattle.jobfile.specs.declared.sizes.Sizes.{Sizes}
-use Rattle.jobfile.proofs.ReaderLaws.{answered_once, fault_refuses, good_judged, judged_good}
+use Rattle.jobfile.proofs.ReaderLaws.{fault_refuses, judged_good, not_good}
 use Rattle.jobfile.proofs.Theorems.{good_count}
 use Rattle.lines.specs.Lines.{header_line, file_line, LineIn, TextIn}
 use Rattle.listing.specs.Listing.{JobListed}
@@ -30,16 +30,12 @@ module _ {file row after : List ℕ} {r : ℕ} where
 
 -- ---- how many jobs there are
 
--- a refused file is not good
-not_good : {file : List ℕ} (fault : FileFault) → Judged file (Err fault) → GoodFile file → ⊥
-not_good fault judged good = fault_refuses fault (answered_once judged (good_judged good)).0
-
 pub jobs_told : {file : List ℕ} (answer : FileAnswer) {sizes : Sizes} → ReadOf file answer sizes → JobsTold file (sizes.count / 2)
 jobs_told {file} (Ok done) {sizes} read =
     let good : GoodFile file = judged_good read.judged in
     subst (JobsTold file) (let e : count_in file ≡ sizes.count / 2 = omega (arith, good_count good read) in e) (all_of_good good)
 jobs_told {file} (Err fault) {sizes} read =
-    subst (JobsTold file) (let e : 0 ≡ sizes.count / 2 = omega (arith, read.yielded.counted) in e) (none_of_refused (not_good fault read.judged))
+    subst (JobsTold file) (let e : 0 ≡ sizes.count / 2 = omega (arith, read.yielded.counted) in e) (none_of_refused (not_good read.judged (fault_refuses fault)))
 
 -- ---- the job of a number
 
@@ -51,7 +47,7 @@ part_there {bytes = bytes} {row} {after} {number} {r = r} e f there t =
     (subst (λ (l : List ℕ). TextIn (JobPart l number) row r after) e (record { text = t.text; is = lines_there there t.is; there = t.there }))
 
 none_there : {file : List ℕ} {number : ℕ} (none : NoJob) → FoundBy file number (Err none) → JobThere file number → ⊥
-none_there (File fault) judged there = not_good fault judged there.good
+none_there (File fault) judged there = not_good judged (fault_refuses fault) there.good
 none_there Number (good, off) there = omega (arith, off, there.some_job, there.inside)
 
 pub part_nowhere : {file : List ℕ} {number : ℕ} (row : List ℕ) (none : NoJob) → FoundBy file number (Err none) → TextIn (JobPart file number) row 0 row

@@ -17,9 +17,8 @@ use Rattle.table.specs.Table.{graph_of}
 use Rattle.table.specs.Faults.{Fault, number, match_order}
 use Rattle.table.proofs.OneAnswer.{fault_once}
 use Rattle.jobfile.specs.File.{GoodFile, count_in, sizes_from, bodies_in}
-use Rattle.jobfile.specs.Faults.{file_number, ReadFault, read_order}
 use Rattle.jobfile.specs.Jobs.{FileJob, jobs_from, jobs_in, entry_of}
-use Rattle.jobfile.proofs.ReaderLaws.{answered_once, good_judged}
+use Rattle.jobfile.proofs.ReaderLaws.{answered_once, not_good}
 use Rattle.lines.specs.Lines.{header_line, job_line, file_line, TextIn}
 use Rattle.lines.proofs.LineLaws.{text_written}
 use Rattle.listing.specs.Listing.{variable_lines, sent_for, JobListed, job_refused, job_accepted, JobsListed, no_jobs, next_job, ListingOf, file_refused, file_listed}
@@ -43,10 +42,6 @@ jobs_listed_only : {k : ℕ} {jobs : List FileJob} (x y : List ℕ) → JobsList
 jobs_listed_only x y no_jobs no_jobs = refl
 jobs_listed_only x y (next_job {lines = l} {rest = r} a more) (next_job {lines = m} {rest = s} b others) =
     ap₂ (λ (f g : List ℕ). f ++ g) (job_listed_only l m a b) (jobs_listed_only r s more others)
-
--- a good file is answered 0
-not_good : {file : List ℕ} {a p : ℕ} → Answered file_number (ReadFault file) read_order a p → (a ≡ 0 → ⊥) → GoodFile file → ⊥
-not_good x other good = other (answered_once x (good_judged good)).0
 
 pub listing_only : {file : List ℕ} (x y : List ℕ) → ListingOf file x → ListingOf file y → x ≡ y
 listing_only x y (file_refused a other) (file_refused b different) = let e = answered_once a b in ap₂ file_line e.0 e.1

@@ -1,5 +1,4 @@
--- `checker::name_fault::first_repeated_name` meets its contract. The loop's invariant:
--- no address passed repeats a name, and the work row holds the chains of the variables passed. Assumes nothing.
+-- `checker::name_fault::first_repeated_name` meets its contract: the chains begin in a row that has room for them. Assumes nothing.
 use Rattle.table.proofs.Readable.{word_0}
 use Rattle.checker.proofs.name_fault.first_repeated_name.Goals as goal
 
