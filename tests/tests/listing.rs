@@ -6,7 +6,10 @@ use station_tests::programs::{listing, listing_into};
 use station_tests::repository;
 use station_tests::table::{block_of, constant, variable, variables, words, MOST_WORDS, UNNAMED};
 use std::fs::{File, OpenOptions};
-use std::process::{Command, Stdio};
+use std::io::Write;
+use std::process::{ChildStdin, Command, Stdio};
+use std::thread;
+use std::time::Duration;
 
 /// What is said on standard error where standard output takes no more.
 const NOT_WHOLE: &str = "station-listing: the listing was not written to its end\n";
@@ -235,15 +238,26 @@ fn a_full_device() {
     assert!(!status.success(), "{status}");
 }
 
-#[test]
-fn a_pipe_that_nobody_reads() {
-    // the input of a program that has ended
+/// The input of a program that has ended. A program that another test starts at that moment has the end that is read
+/// too, until it runs, so a write is tried until it fails: from then on nobody reads.
+fn pipe_that_nobody_reads() -> ChildStdin {
     let mut ended = Command::new("true")
         .stdin(Stdio::piped())
         .spawn()
         .expect("the program is there");
-    let writer = ended.stdin.take().expect("its input is piped");
+    let mut writer = ended.stdin.take().expect("its input is piped");
     ended.wait().expect("it ends");
-    let (status, _) = listing_into(writer.into(), &file_of(&examples()));
+    for _ in 0..10_000 {
+        if writer.write(b"?").is_err() {
+            return writer;
+        }
+        thread::sleep(Duration::from_millis(1));
+    }
+    panic!("somebody reads the pipe");
+}
+
+#[test]
+fn a_pipe_that_nobody_reads() {
+    let (status, _) = listing_into(pipe_that_nobody_reads().into(), &file_of(&examples()));
     assert!(!status.success(), "{status}");
 }
