@@ -21,7 +21,7 @@ pub(crate) fn match_lent(
     requires { RowsOfJob job.file.now job.number table.old list.old class.old work.old room.old }
     ensures { HostOf job.entry.file.now job.entry.number room.old result room.new }
 {
-    jobfile::take_job(job, table, list);
+    jobfile::take_job(job.file, job.number, table, list);
     let answer = matcher::match_list(table, list, class, work);
     report::report(answer, class, room)
 }

@@ -1,6 +1,6 @@
 -- What is copied out of a body. In order:
 --     numbers, over their width    taken_more: what a turn copies; all_taken: what a loop leaves; taken_full: a full row
---     a job                        body_ends: its body; rows_for: rows for it; part_size, job-taken: its words and addresses, out of it
+--     a job                        body_ends: its body; part_size, job-taken: its words and addresses, out of it
 -- Assumes nothing.
 use mathlib.Core.Path.{◌≡◌, refl, sym, ap, ap₂, ◌∙◌}
 use mathlib.Core.List.{List, ◌++◌, append-nil, map}
@@ -15,7 +15,7 @@ use Rattle.rows.proofs.Laws.{Built, built_more, built_all}
 use Rattle.jobfile.specs.Numbers.{row_in}
 use Rattle.jobfile.specs.Steps.Taking.{fitting, taken}
 use Rattle.jobfile.specs.File.{body_size, count_in, offset_in, pairs_in, body_start, body_in}
-use Rattle.jobfile.specs.Jobs.{entry_of, words_of, JobThere, JobWith, RowsForJob, JobTaken}
+use Rattle.jobfile.specs.Jobs.{entry_of, words_of, JobThere, RowsForJob, JobTaken}
 use Rattle.jobfile.proofs.NumberLaws.{to_the_end, entry_row_in}
 use Rattle.jobfile.proofs.FileLaws.{next_start}
 use Rattle.jobfile.proofs.JobLaws.{row_front}
@@ -55,10 +55,6 @@ module _ {bytes : List ℕ} {job : ℕ} (there : JobThere bytes job) where
   length_body =
       length-take-le (body_size (words_of bytes job) (pairs_in bytes (entry_of job))) (drop (body_start bytes (entry_of job)) bytes)
       (simp length-drop (omega (arith, next_start bytes (entry_of job) {start = body_start bytes (entry_of job)} refl refl refl, body_inside there.good (entry_of job) entry_there)))
-
--- rows of the lengths that a job says
-pub rows_for : {bytes : List ℕ} {job n p : ℕ} (table list : List ℕ) → JobWith bytes job n p → (length table ≡ n) × (length list ≤ 2 * p) → RowsForJob bytes job table list
-rows_for table list found (words, pairs) = record { there = found.there; words = words ∙ found.words; pairs = omega (arith, pairs, found.pairs) }
 
 module _ {bytes : List ℕ} {job : ℕ} {table list part : List ℕ} (rows : RowsForJob bytes job table list) (body : part ≡ body_in bytes (entry_of job)) where
   pub part_size : length part ≡ 4 * length table + 4 * pairs_in bytes (entry_of job)

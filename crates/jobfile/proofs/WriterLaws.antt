@@ -1,13 +1,13 @@
 -- What the writer's stores come to. In order:
---     one part after another       placed_next, built_placed, built_behind, built_again, entry_placed
+--     one part after another       placed_next, built_placed, built_behind, built_again, copied_behind, entry_placed
 --     the sum of the sizes         bodies_summed
 --     the contents                 Writing, writing_none, writing_more, writing_all
 -- Assumes nothing.
 use mathlib.Core.Path.{◌≡◌, refl, sym, ap, ap₂, ◌∙◌, subst}
-use Prim.Native.Nat.{ℕ, suc, ◌+◌, ◌*◌, ◌≤◌, ◌<◌}
+use Prim.Native.Nat.{ℕ, suc, ◌+◌, ◌-◌, ◌*◌, ◌≤◌, ◌<◌}
 use native.Mathlib.Omega.{arith}
-use mathlib.Core.List.{List, [], ◌∷◌, ◌++◌, append_assoc}
-use lib.ListN.{length, take, drop, get_or, length-append}
+use mathlib.Core.List.{List, [], ◌∷◌, ◌++◌, append_assoc, append-nil}
+use lib.ListN.{length, take, drop, get_or, length-append, length-drop, drop_of_length-le}
 use lib.Seq.{drop-cons, take_at, drop_at, take-add, drop-drop, length-take-le}
 use Rattle.std.specs.Prelude.{sum_by}
 use Rattle.std.proofs.lemmas.List.Sums.{sum_by-cons}
@@ -17,6 +17,7 @@ use Rattle.rows.proofs.Laws.{length-bytes_of, length-placed, behind_stays, Built
 use Rattle.words.specs.Limits.{most_bytes}
 use Rattle.jobfile.specs.File.{body_size, contents_end, job_count, bodies_size, contents_of}
 use Rattle.jobfile.specs.Steps.Writing.{front_of, Fitted}
+use Rattle.jobfile.proofs.NumberLaws.{to_the_end}
 use Rattle.jobfile.proofs.FileLaws.{length-contents_of}
 
 -- ---- one part after another
@@ -67,6 +68,16 @@ module _ {A : Type 0} where
     room = omega (arith, built.room, built.same_length);
     same_length = refl;
   }
+
+  -- a row copied over the front of the part from a place on, as it comes back from a loan of that part
+  pub copied_behind : (at : ℕ) (xs row : List A) {part : List A} → at + length xs ≤ length row → part ≡ xs ++ drop (length xs) (take (length row - at) (drop at row))
+      → take at row ++ (part ++ drop (length row - at) (drop at row)) ≡ placed at xs row
+  unfolding placed
+  copied_behind at xs row {part} inside e =
+      let size : length (drop at row) ≤ length row - at = simp length-drop (omega arith) in
+      let whole : take (length row - at) (drop at row) ≡ drop at row = to_the_end at row in
+      let over : drop (length row - at) (drop at row) ≡ [] = drop_of_length-le (drop at row) size in
+      rw (over, append-nil, e, whole, drop-drop (length xs) at row) (sym (append_assoc (take at row) xs (drop (at + length xs) row)))
 
 -- the three numbers of an entry, one after another
 pub entry_placed : (at x y z : ℕ) (row : List ℕ) {one two three : List ℕ} → at + 6 ≤ length row → one ≡ placed at (bytes_of 2 x) row → two ≡ placed (at + 2) (bytes_of 2 y) one

@@ -45,13 +45,13 @@ fn put_contents(sizes: &[u16], file: &mut [u8])
     }
 }
 
-// Copies all of from into a row of its length.
+// Copies all of from over the front of into. The bytes after it stay.
 //
 // Kept: a loop and not the library's `copy_from_slice`, by which the static library would ask memmove of the C library. A host
 // has to have memset alone (docs/HOST.md).
 fn copy(from: &[u8], into: &mut [u8])
-    requires { length from.now ≡ length into.old }
-    ensures { into.new ≡ from.now }
+    requires { length from.now ≤ length into.old }
+    ensures { into.new ≡ from.now ++ drop (length from.now) into.old }
 {
     for (i, byte) in from.iter().enumerate() {
         into[i] = *byte;
@@ -78,6 +78,6 @@ pub fn write(sizes: &[u16], bodies: &[u8], room: &mut [u8]) -> Result<(), WriteF
         return Err(WriteFault::Room);
     }
     put_contents(sizes, room);
-    copy(bodies, &mut room[start..end]);
+    copy(bodies, &mut room[start..]);
     Ok(())
 }

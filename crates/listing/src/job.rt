@@ -56,7 +56,7 @@ fn match_job(
     requires { RowsForListing job.file.now job.number table.old list.old class.old work.old }
     ensures { TextIn (JobListed job.entry.number (job_at job.entry.file.now job.entry.number)) row.old result row.new × (result ≤ job_room) }
 {
-    jobfile::take_job(job, table, list);
+    jobfile::take_job(job.file, job.number, table, list);
     let answer = matcher::match_list(table, list, class, work);
     put_answer(job.number as u16, answer, table, class, row)
 }

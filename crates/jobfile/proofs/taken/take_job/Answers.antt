@@ -1,14 +1,17 @@
 -- `jobfile::taken::take_job` meets its contract.
 -- Assumes nothing.
 use native.Mathlib.Omega.{arith}
-use Rattle.jobfile.proofs.TakenLaws.{rows_for, part_size, job-taken}
+use Rattle.jobfile.proofs.TakenLaws.{part_size, job-taken}
 use Rattle.jobfile.proofs.taken.take_job.Goals as goal
 
+pub body-body-requires : goal.body-body-requires
+body-body-requires c = c.requires.there
+
 pub slice_bounds-take-count : goal.slice_bounds-take-count
-slice_bounds-take-count c = omega (arith, part_size (rows_for c.args.table.now c.args.list.now c.args.job.is_there c.requires) c.body-body.ensures)
+slice_bounds-take-count c = omega (arith, part_size c.requires c.body-body.ensures)
 
 pub slice_bounds-take-start : goal.slice_bounds-take-start
-slice_bounds-take-start c = omega (arith, part_size (rows_for c.args.table.now c.args.list.now c.args.job.is_there c.requires) c.body-body.ensures)
+slice_bounds-take-start c = omega (arith, part_size c.requires c.body-body.ensures)
 
 pub returns : goal.returns
-returns c = job-taken (rows_for c.args.table.now c.args.list.now c.args.job.is_there c.requires) c.body-body.ensures c.take.ensures c.take-2.ensures
+returns c = job-taken c.requires c.body-body.ensures c.take.ensures c.take-2.ensures

@@ -3,7 +3,7 @@
 use mathlib.Core.Path.{sym, ◌∙◌}
 use mathlib.Core.Logic.{inl, inr}
 use native.Mathlib.Omega.{arith}
-use Rattle.rows.proofs.Laws.{copied_within}
+use Rattle.jobfile.proofs.WriterLaws.{copied_behind}
 use Rattle.jobfile.proofs.WriteAnswers.{write_contents, write_body, write_file, write_room, write_all}
 use Rattle.jobfile.proofs.writer.write.Goals as goal
 use Rattle.jobfile.proofs.writer.write.Goals.{then-sizes-ne0-via-then-sizes-ne0, then-sizes-ne0-via-else-sizes-ne0+then-sizes-eq0, then-sizes-ne0-via-else-sizes-ne0+else-sizes-eq0+then-sizes-gt-MOST_SIZES}
@@ -27,4 +27,4 @@ returns-then-room-end c = write_room c.args.sizes.now c.args.bodies.now c.args.r
 
 pub returns : goal.returns
 returns c = write_all c.args.sizes.now c.args.bodies.now c.args.room.now (omega arith) (c.if-bodies-bodies_size.false ∙ c.bodies_size.ensures) (omega arith) (omega arith) c.put_contents.ensures
-    (copied_within _ _ _ _ _ (omega arith) c.copy.ensures)
+    (copied_behind _ c.args.bodies.now _ (omega arith) c.copy.ensures)
