@@ -55,7 +55,8 @@ fn end(wanted: Wanted, at: usize) -> Option<usize>
 {
     match wanted {
         Wanted::Item => None,
-        Wanted::Count | Wanted::Arguments(_) => Some(at),
+        Wanted::Count => Some(at),
+        Wanted::Arguments(_) => Some(at),
     }
 }
 

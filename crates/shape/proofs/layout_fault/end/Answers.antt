@@ -10,3 +10,7 @@ returns-in-Item c = search rules
 pub returns-in-Count : goal.returns-in-Count
 unfolding at_end
 returns-in-Count c = search rules
+
+pub returns-in-Arguments : goal.returns-in-Arguments
+unfolding at_end
+returns-in-Arguments c = search rules
