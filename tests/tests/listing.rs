@@ -6,7 +6,7 @@ use station_tests::programs::{listing, listing_into};
 use station_tests::repository;
 use station_tests::table::{block_of, constant, variable, variables, words, MOST_WORDS, UNNAMED};
 use std::fs::{File, OpenOptions};
-use std::io::Write;
+use std::io::{ErrorKind, Write};
 use std::process::{ChildStdin, Command, Stdio};
 use std::thread;
 use std::time::Duration;
@@ -248,7 +248,8 @@ fn pipe_that_nobody_reads() -> ChildStdin {
     let mut writer = ended.stdin.take().expect("its input is piped");
     ended.wait().expect("it ends");
     for _ in 0..10_000 {
-        if writer.write(b"?").is_err() {
+        let written = writer.write(b"?");
+        if written.is_err_and(|e| e.kind() == ErrorKind::BrokenPipe) {
             return writer;
         }
         thread::sleep(Duration::from_millis(1));

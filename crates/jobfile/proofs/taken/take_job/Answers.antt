@@ -4,9 +4,6 @@ use native.Mathlib.Omega.{arith}
 use Rattle.jobfile.proofs.TakenLaws.{part_size, job-taken}
 use Rattle.jobfile.proofs.taken.take_job.Goals as goal
 
-pub body-body-requires : goal.body-body-requires
-body-body-requires c = c.requires.there
-
 pub slice_bounds-take-count : goal.slice_bounds-take-count
 slice_bounds-take-count c = omega (arith, part_size c.requires c.body-body.ensures)
 
