@@ -6,6 +6,7 @@ use std::fs;
 use std::os::unix::fs::PermissionsExt;
 use std::path::{Path, PathBuf};
 use std::process::Command;
+use std::sync::{Mutex, MutexGuard, PoisonError};
 
 /// Notes what it is asked for. A crate is proved unless its source says `false`; one that says `unfit` is
 /// refused as the kit refuses an edit that its proof file no longer fits. An edit is put into a copy of its
@@ -51,12 +52,19 @@ must-fail)
 esac
 "#;
 
+/// A file that is open to be written cannot be run, and a program that another test starts at that moment has it open
+/// too, until it runs. So the small repositories stand one at a time.
+static ALONE: Mutex<()> = Mutex::new(());
+
 /// A repository of its own, with the tools and the stand-in, which goes when the test ends.
-struct Small(PathBuf);
+struct Small {
+    folder: PathBuf,
+    _alone: MutexGuard<'static, ()>,
+}
 
 impl Drop for Small {
     fn drop(&mut self) {
-        fs::remove_dir_all(&self.0).ok();
+        fs::remove_dir_all(&self.folder).ok();
     }
 }
 
@@ -64,8 +72,11 @@ impl Small {
     fn new(name: &str, crates: &str) -> Small {
         // outside the repository, whose every file of Rattle belongs to a crate of its own
         let name = format!("station-{name}-{}", std::process::id());
-        let small = Small(std::env::temp_dir().join(name));
-        fs::remove_dir_all(&small.0).ok();
+        let small = Small {
+            folder: std::env::temp_dir().join(name),
+            _alone: ALONE.lock().unwrap_or_else(PoisonError::into_inner),
+        };
+        fs::remove_dir_all(&small.folder).ok();
         for tool in ["edits", "staticlib"] {
             let from = repository().join("tools").join(tool);
             small.put(
@@ -79,7 +90,7 @@ impl Small {
     }
 
     fn put(&self, path: &str, text: &str) {
-        let path = self.0.join(path);
+        let path = self.folder.join(path);
         fs::create_dir_all(path.parent().expect("a file stands in a folder"))
             .expect("a folder is made");
         fs::write(&path, text).expect("a file is written");
@@ -89,10 +100,13 @@ impl Small {
     /// Whether a tool ends well, and what it prints.
     fn run(&self, tool: &str, words: &[&str]) -> (bool, String) {
         let path = std::env::var("PATH").expect("there is a path");
-        let output = Command::new(self.0.join("tools").join(tool))
+        let output = Command::new(self.folder.join("tools").join(tool))
             .args(words)
-            .env("PATH", format!("{}:{path}", self.0.join("kit").display()))
-            .env("ASKED", self.0.join("asked"))
+            .env(
+                "PATH",
+                format!("{}:{path}", self.folder.join("kit").display()),
+            )
+            .env("ASKED", self.folder.join("asked"))
             .env("RT_JOBS", "2")
             .output()
             .expect("the tool runs");
@@ -104,12 +118,12 @@ impl Small {
 
     /// How often a library was proved so far.
     fn proved(&self) -> usize {
-        let asked = fs::read_to_string(self.0.join("asked")).expect("the kit was asked");
+        let asked = fs::read_to_string(self.folder.join("asked")).expect("the kit was asked");
         asked.lines().filter(|line| line.starts_with("lib")).count()
     }
 
     fn is_there(&self, path: &str) -> bool {
-        Path::new(&self.0.join(path)).exists()
+        Path::new(&self.folder.join(path)).exists()
     }
 }
 
