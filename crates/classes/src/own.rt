@@ -27,7 +27,8 @@ pub fn count_joins(table: &[u32], class: &[u16]) -> u16
     ensures { result ≡ joins (graph_of table.now) class.now }
 {
     // Kept: by `filter` and `count` the compiler takes one entry at a time. A match on lent buffers was then 1.24
-    // of plain C in the mean, and by this loop 1.05 in the same runs; the bar is 0.95 (docs/BENCH.md).
+    // of plain C in the mean, and by this loop 1.05 in the same runs; the goal is 1.0, and
+    // docs/BENCH.md has 0.95.
     let mut joined = 0;
     for x in 0..table.len() {
         if class[x] != 0 && class[x] != x as u16 {

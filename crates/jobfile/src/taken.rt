@@ -32,7 +32,7 @@ fn body(file: &[u8], job: usize) -> &[u8]
 
 // Copies the words of the job of a number, from 1, into table, and its addresses into list, as many as have room.
 //
-// Kept: file and number, and no `FoundJob`, of which n and p would be asked as well. docs/CONTRACTS.md names this function.
+// Kept: a file and a number, and not a `FoundJob`, for which a caller would need p too. docs/CONTRACTS.md names this function.
 pub fn take_job(file: &[u8], job: usize, table: &mut [u32], list: &mut [u16])
     requires { RowsForJob file.now job table.old list.old }
     ensures { JobTaken file.now job list.old table.new list.new }

@@ -49,7 +49,8 @@ fn after(wanted: Wanted, word: u32) -> Wanted
     }
 }
 
-// The end of the table, at address `at`: it can stand where an item may.
+// The end of the table, at address `at`: it can stand where an item may. An arm for each, as `at_end` has, so that an edit can
+// make one of them wrong.
 fn end(wanted: Wanted, at: usize) -> Option<usize>
     ensures { result ≡ at_end (wanted_of wanted) at }
 {
